@@ -1,0 +1,81 @@
+//! The bytes of a name or of a piece of a source.
+ghost use Rattle.std.specs.Prelude.{◌≡◌, [], ◌++◌, ◌∷◌, length, IfOk, OnOk, OnErr};
+
+use crate::errors::NoMemory;
+use crate::list::Duplicate;
+use std::alloc::Global;
+use std::marker::Model;
+
+/// The text of a name or a piece: bytes, of any encoding, which contracts see as the list of them.
+#[derive(Debug, Drop)]
+pub struct Text {
+    bytes: Vec<u8>,
+}
+
+impl Model for Text {
+    ghost use Rattle.std.specs.Prelude.{List, ℕ};
+
+    ghost Value = { List ℕ };
+
+    ghost view = { λ t. t.bytes.items };
+}
+
+impl Text {
+    /// No bytes.
+    pub fn new(alloc: Global) -> Text
+        ensures { result ≡ [] }
+    {
+        Text {
+            bytes: Vec::new(alloc),
+        }
+    }
+
+    /// These bytes, copied.
+    pub fn from_slice(alloc: Global, bytes: &[u8]) -> Result<Text, NoMemory>
+        ensures { IfOk result (λ t. t ≡ bytes.now) }
+    {
+        let bytes = Vec::from_slice(alloc, bytes)?;
+        Ok(Text { bytes })
+    }
+
+    /// The bytes of a `Vec`, with no copy.
+    pub fn from_vec(bytes: Vec<u8>) -> Text
+        ensures { result ≡ bytes.items }
+    {
+        Text { bytes }
+    }
+
+    pub fn as_slice(&self) -> &[u8]
+        ensures { result.now ≡ self.now }
+    {
+        self.bytes.as_slice()
+    }
+
+    pub fn len(&self) -> usize
+        ensures { result ≡ length self.now }
+    {
+        self.bytes.len()
+    }
+
+    /// Adds the bytes at the end; a refused call changes nothing.
+    pub fn push_all(&mut self, more: &[u8]) -> Result<(), NoMemory>
+        ensures ok { OnOk result (self.new ≡ self.old ++ more.now) }
+        ensures err { OnErr result (self.new ≡ self.old) }
+    {
+        self.bytes.extend_from_slice(more)?;
+        Ok(())
+    }
+
+    pub fn copy(&self) -> Result<Text, NoMemory>
+        ensures { IfOk result (λ t. t ≡ self.now) }
+    {
+        let bytes = self.bytes.clone()?;
+        Ok(Text { bytes })
+    }
+}
+
+impl Duplicate for Text {
+    fn duplicate(&self) -> Result<Text, NoMemory> {
+        self.copy()
+    }
+}
