@@ -1,6 +1,10 @@
 -- The folders that the paths of stored files make, and their members.
-use Rattle.std.specs.Prelude.{◌≡◌, ℕ, Bool, ◌||◌, ◌==◌, if◌then◌else◌, List, ◌++◌, ◌↔◌, length, drop, Option, Some, None, option_map, is_some, bytes_eq, nat_eq, codes, Contains, Any}
+use Rattle.std.specs.Prelude.{◌≡◌, ℕ, Bool, ◌||◌, ◌==◌, if◌then◌else◌, List, [], ◌∷◌, ◌⊎◌, ◌↔◌, length, drop, Option, Some, None, option_map, option_and_then, is_some, bytes_eq, nat_eq, codes}
 use Rattle.std.specs.List.{list_any, starts_with, before_first}
+use Rattle.std.specs.Ordering.{ordering_then, nat_cmp, bool_cmp}
+use Rattle.std.specs.Cmp.Lexicographic.{slice_cmp}
+use Rattle.std.specs.declared.cmp.Ordering.{Ordering}
+use Rattle.std.specs.declared.cmp.Ordering.TheVariants.{Less}
 use Rattle.cx_base.specs.declared.answers.Entry.{Entry}
 use Rattle.cx_base.specs.declared.answers.Stored.{Stored}
 
@@ -20,7 +24,7 @@ abbrev pub inside : List ℕ → List ℕ → Option (List ℕ)
 inside folder path =
     if bytes_eq folder (codes ".")
     then (if is_elsewhere path then None else Some path)
-    else behind (folder ++ codes "/") path
+    else option_and_then (behind (codes "/")) (behind folder path)
 
 -- the first part of a path, which is a folder where more parts follow
 abbrev pub first_entry : List ℕ → Entry
@@ -34,7 +38,26 @@ entry_at folder path = option_map first_entry (inside folder path)
 abbrev pub is_folder : List Stored → List ℕ → Bool
 is_folder stored path = bytes_eq path (codes ".") || list_any (λ file. is_some (inside path file.path)) stored
 
+-- some file's path leads to this member of a folder
+abbrev pub LeadsTo : List Stored → List ℕ → Entry → Type 0
+LeadsTo [] folder entry = ⊥
+LeadsTo (file ∷ files) folder entry = (entry_at folder file.path ≡ Some entry) ⊎ LeadsTo files folder entry
+
+-- the entry stands in the list
+abbrev pub Has : List Entry → Entry → Type 0
+Has [] entry = ⊥
+Has (first ∷ rest) entry = (entry ≡ first) ⊎ Has rest entry
+
 -- the members of a folder are those to which the paths of files lead
 abbrev pub AreMembers : List Stored → List ℕ → List Entry → Type 0
-AreMembers stored folder entries =
-    (entry : Entry) → Contains entries entry ↔ Any (λ file. entry_at folder file.path ≡ Some entry) stored
+AreMembers stored folder entries = (entry : Entry) → Has entries entry ↔ LeadsTo stored folder entry
+
+-- entries go by the bytes of their names, and at one name a file stands before a folder
+abbrev pub entry_cmp : Entry → Entry → Ordering
+entry_cmp one other = ordering_then (slice_cmp nat_cmp one.name other.name) (bool_cmp one.folder other.folder)
+
+-- each entry stands before the next, so that each is there once
+abbrev pub IsOrdered : List Entry → Type 0
+IsOrdered [] = Unit {0}
+IsOrdered (first ∷ []) = Unit {0}
+IsOrdered (first ∷ second ∷ rest) = (entry_cmp first second ≡ Less) × IsOrdered (second ∷ rest)

@@ -4,18 +4,37 @@
 
 pub use answers::{Answer, Entry, Seen, SeenEntry, Stored};
 pub use bytes::Bytes;
+pub use disk_files::DiskFiles;
 pub use errors::{Lost, NoMemory};
+pub use finding::{Finding, Word};
+pub use id::{Id, Severity};
 pub use list::{Duplicate, List};
+pub use memory_files::{MemoryFiles, can_stand};
+pub use memory_sink::MemorySink;
 pub use outside::{Files, Sink};
 pub use path::Path;
 pub use place::Place;
+pub use simple::is_simple;
+pub use std_sink::StdSink;
 pub use text::Text;
+pub use write_all::write_whole;
 
 mod answers;
 mod bytes;
+mod calls;
+mod disk_files;
 mod errors;
+mod finding;
+mod folders;
+mod id;
 mod list;
+mod members;
+mod memory_files;
+mod memory_sink;
 mod outside;
 mod path;
 mod place;
+mod simple;
+mod std_sink;
 mod text;
+mod write_all;

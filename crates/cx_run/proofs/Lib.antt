@@ -1,0 +1,2 @@
+pub mod TookLaws
+pub mod UnitLaws

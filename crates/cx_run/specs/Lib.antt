@@ -1,0 +1,7 @@
+pub mod Answers
+pub mod Asking
+pub mod Outcomes
+pub mod Reports
+pub mod Texts
+pub mod Words
+pub mod Written

@@ -1,0 +1,85 @@
+//! The line of a finding.
+ghost use Rattle.std.specs.Prelude.{◌≡◌, ◌++◌, codes, decimal, option_copied, IfOk, OnOk};
+ghost use Rattle.cx_run.specs.Texts.{finding_line, first_word, message, place_in};
+
+use cx_base::{Bytes, Finding, Id, NoMemory, Path, Place, Word};
+use itoa::Buffer;
+use std::alloc::Global;
+
+fn push_number(line: &mut Bytes, number: u32) -> Result<(), NoMemory>
+    ensures { OnOk result (line.new ≡ line.old ++ decimal number) }
+{
+    let mut buffer = Buffer::new();
+    line.push_all(buffer.format(number).as_bytes())
+}
+
+// The line and column of a place, behind its file.
+fn push_line_and_column(line: &mut Bytes, place: Place) -> Result<(), NoMemory>
+    ensures { OnOk result (line.new ≡ line.old ++ codes ":" ++ decimal place.line ++ codes ":" ++ decimal place.column) }
+{
+    line.push_all(b":")?;
+    push_number(line, place.line)?;
+    line.push_all(b":")?;
+    push_number(line, place.column)?;
+    Ok(())
+}
+
+// The file, line and column of a place, `nofile:0:0` where it has no file.
+fn push_place(line: &mut Bytes, file: Option<&Path>, place: Place) -> Result<(), NoMemory>
+    ensures { OnOk result (line.new ≡ line.old ++ place_in (option_copied file.entry) place) }
+{
+    match file {
+        Some(file) => {
+            line.push_all(file.as_bytes())?;
+            push_line_and_column(line, place)?;
+            Ok(())
+        }
+        None => {
+            line.push_all(b"nofile:0:0")?;
+            Ok(())
+        }
+    }
+}
+
+fn push_first_word(line: &mut Bytes, words: &[Word]) -> Result<(), NoMemory>
+    ensures { OnOk result (line.new ≡ line.old ++ first_word words.now) }
+{
+    match words {
+        [Word::Text(text), ..] => line.push_all(text.as_slice()),
+        _ => Ok(()),
+    }
+}
+
+fn push_message(line: &mut Bytes, id: Id, words: &[Word]) -> Result<(), NoMemory>
+    ensures { OnOk result (line.new ≡ line.old ++ message id words.now) }
+{
+    match id {
+        Id::ReadFault => {
+            line.push_all(b"File could not be read: ")?;
+            push_first_word(line, words)?;
+            Ok(())
+        }
+        _ => Ok(()),
+    }
+}
+
+/// The line of a finding, with the newline behind it.
+pub(crate) fn finding_line(
+    alloc: Global,
+    files: &[Path],
+    finding: &Finding,
+) -> Result<Bytes, NoMemory>
+    ensures { IfOk result (λ line. line ≡ finding_line files.now finding.now) }
+{
+    let mut line = Bytes::new(alloc);
+    let file = files.get(finding.place.file as usize);
+    push_place(&mut line, file, finding.place)?;
+    line.push_all(b": ")?;
+    line.push_all(finding.severity.name().as_bytes())?;
+    line.push_all(b": ")?;
+    push_message(&mut line, finding.id, finding.words.as_slice())?;
+    line.push_all(b" [")?;
+    line.push_all(finding.id.name().as_bytes())?;
+    line.push_all(b"]\n")?;
+    Ok(line)
+}
