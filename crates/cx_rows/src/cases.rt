@@ -1,0 +1,133 @@
+//! How a case is written, and how it is run.
+use cx_base::{Bytes, List, MemoryFiles, MemorySink, Path, Seen, Stored, can_stand};
+use cx_run::{Cause, are_in_bounds, run};
+use std::alloc::Global;
+use std::process::Abort;
+use std::test::Fail;
+
+/// The bytes of a file.
+#[derive(Clone, Copy)]
+pub enum Content {
+    Text(&'static [u8]),
+    /// So many spaces.
+    Blanks(usize),
+}
+
+/// A sink to write to.
+#[derive(Clone, Copy)]
+pub enum Taking {
+    /// One that takes all.
+    All,
+    /// One with room for so many bytes.
+    Room(u64),
+    /// One that takes so many bytes a call.
+    Slow(u64),
+    /// One of which the first call fails.
+    Failing,
+}
+
+/// What is run, and what it is to give.
+#[derive(Clone, Copy)]
+pub struct Case {
+    pub name: &'static str,
+    pub words: &'static [&'static str],
+    pub files: &'static [(&'static str, Content)],
+    /// The numbers of the calls on the files that fail.
+    pub failing: &'static [u64],
+    pub out: Taking,
+    pub err: Taking,
+    pub cause: Cause,
+    pub status: u8,
+    pub told: &'static str,
+    pub found: &'static str,
+    /// How many paths were asked.
+    pub seen: usize,
+}
+
+/// A case of one word over whole sinks; its further fields are changed by the table.
+pub const PLAIN: Case = Case {
+    name: "the empty file",
+    words: &["a.c"],
+    files: &[("a.c", Content::Text(b""))],
+    failing: &[],
+    out: Taking::All,
+    err: Taking::All,
+    cause: Cause::Done,
+    status: 0,
+    told: "Checking a.c ...\n",
+    found: "",
+    seen: 1,
+};
+
+fn bytes_of(alloc: Global, content: Content) -> Result<Bytes, Fail> {
+    match content {
+        Content::Text(text) => Ok(Bytes::from_slice(alloc, text)?),
+        Content::Blanks(count) => Ok(Bytes::from_vec(vec![in alloc; b' '; count]?)),
+    }
+}
+
+fn files_of(alloc: Global, files: &[(&'static str, Content)]) -> Result<List<Stored>, Fail> {
+    let mut list = List::new(alloc);
+    for (path, bytes) in files {
+        list.push(Stored {
+            path: Path::from_str(alloc, path)?,
+            bytes: bytes_of(alloc, *bytes)?,
+        })?;
+    }
+    Ok(list)
+}
+
+fn words_of(alloc: Global, texts: &[&'static str]) -> Result<Vec<Path>, Fail> {
+    let mut words = Vec::new(alloc);
+    for text in texts {
+        words.push(Path::from_str(alloc, text)?)?;
+    }
+    Ok(words)
+}
+
+fn numbers_of(alloc: Global, numbers: &[u64]) -> Result<List<u64>, Fail> {
+    let mut list = List::new(alloc);
+    for number in numbers {
+        list.push(*number)?;
+    }
+    Ok(list)
+}
+
+fn sink_of(alloc: Global, taking: Taking) -> Result<MemorySink, Fail> {
+    match taking {
+        Taking::All => Ok(MemorySink::new(alloc, List::new(alloc))),
+        Taking::Room(room) => Ok(MemorySink::with_room(alloc, room)),
+        Taking::Slow(most) => {
+            if most == 0 {
+                return Err(Fail::from("a slow sink takes at least a byte"));
+            }
+            Ok(MemorySink::slow(alloc, most))
+        }
+        Taking::Failing => Ok(MemorySink::new(alloc, numbers_of(alloc, &[0])?)),
+    }
+}
+
+/// Runs a case, and compares what it gave.
+pub fn try_case(rt: &impl Abort, alloc: Global, case: &Case) -> Result<(), Fail> {
+    let name = case.name;
+    let files = files_of(alloc, case.files)?;
+    let words = words_of(alloc, case.words)?;
+    let mut out = sink_of(alloc, case.out)?;
+    let mut err = sink_of(alloc, case.err)?;
+    assert!(rt; can_stand(files.as_slice()), "{name}: the files");
+    assert!(rt; are_in_bounds(words.as_slice()), "{name}: the words");
+    let mut files = MemoryFiles::new(alloc, files, numbers_of(alloc, case.failing)?);
+    let ended = run(alloc, words.as_slice(), &mut files, &mut out, &mut err);
+    assert_eq!(rt; ended.cause, case.cause, "{name}: the cause");
+    assert_eq!(rt; ended.status, case.status, "{name}: the status");
+    assert_eq!(rt; ended.seen.len(), case.seen, "{name}: the paths asked");
+    assert!(rt;
+        out.bytes().as_slice() == case.told.as_bytes(),
+        "{name}: out"
+    );
+    assert!(rt;
+        err.bytes().as_slice() == case.found.as_bytes(),
+        "{name}: err"
+    );
+    Ok(())
+}
