@@ -1,5 +1,5 @@
 -- A result outside of `i128` fits as its low 128 bits say.
-use Rattle.std.proofs.Common.{◌≡◌, ℕ, zero, suc, ◌+◌, ◌-◌, ◌*◌, ◌/◌, ◌%◌, ◌^◌, ◌<◌, ◌≤◌, ℤ, pos, negsuc, ◌+ℤ◌, ◌-ℤ◌, ◌*ℤ◌, neg_ℤ, FitsSigned, refl, sym, ap, ◌∙◌, arith, Option, Some, None, unsigned_abs, Bool, true, false, cond, ◌&&◌, int_le, ◌≤ℤ◌}
+use Rattle.std.proofs.Common.{◌≡◌, ℕ, ◌+◌, ◌-◌, ◌*◌, ◌/◌, ◌%◌, ◌^◌, ◌<◌, ◌≤◌, ℤ, pos, negsuc, ◌+ℤ◌, ◌-ℤ◌, ◌*ℤ◌, neg_ℤ, FitsSigned, refl, sym, ap, ◌∙◌, arith, Some, None, false, cond, ◌&&◌, int_le, ◌≤ℤ◌}
 use Rattle.std.specs.Ordering.{int_eq}
 use Rattle.std.proofs.Math.Nat.{mul-le-mul_left}
 use Rattle.std.proofs.lemmas.Int.{ints, int_rem_euclid_is, wrapping_add_is, wrapping_sub_is, wrapping_mul_is, wrapping_neg_is}

@@ -1,5 +1,5 @@
 -- Quotients, remainders and powers as the machine has them.
-use Rattle.std.proofs.Common.{◌≡◌, ℕ, zero, suc, ◌+◌, ◌-◌, ◌*◌, ◌/◌, ◌%◌, ◌^◌, ◌<◌, ◌≤◌, ℤ, pos, negsuc, ◌+ℤ◌, ◌-ℤ◌, ◌*ℤ◌, neg_ℤ, FitsSigned, refl, sym, ap, ◌∙◌, arith, to_z, of_z, int_div, int_rem, subst, Option, Some, None, cond, false, option_and_then}
+use Rattle.std.proofs.Common.{◌≡◌, zero, suc, ◌/◌, ◌≤◌, ℤ, pos, negsuc, ◌-ℤ◌, ◌*ℤ◌, neg_ℤ, FitsSigned, refl, sym, ap, ◌∙◌, arith, to_z, of_z, int_div, int_rem, subst, Some, None, cond, false, option_and_then}
 use Rattle.std.proofs.Math.Nat.{mul-le-mul_left, div-le_self, div-add-mod}
 use Rattle.std.specs.Ordering.{int_eq}
 use Rattle.cx_tree.specs.declared.types.Platform.{Platform}

@@ -1,5 +1,5 @@
 -- The integer types of C11 (ISO/IEC 9899:2011) and their values on each platform.
-use Rattle.std.specs.Prelude.{ℕ, ◌*◌, ◌-◌, ℤ, pos, neg_ℤ}
+use Rattle.std.specs.Prelude.{ℕ, ◌-◌, ℤ, pos, neg_ℤ}
 use Rattle.cx_tree.specs.declared.types.Platform.{Platform}
 use Rattle.cx_tree.specs.declared.types.Platform.TheVariants.{Unix32, Unix64, Win64}
 use Rattle.cx_tree.specs.declared.types.IntType.{IntType}

@@ -19,6 +19,7 @@ pub(crate) fn low_bits(w: Width, value: i128) -> i128
     }
 }
 
+/// The value that low bits have in a signed type.
 fn signed_value(w: Width, low: i128) -> i128
     requires { pos 0 ≤ℤ low }
     ensures { result ≡ rules.signed_value w low }
@@ -57,7 +58,7 @@ pub fn promote(t: IntType, p: Platform) -> IntType
     }
 }
 
-/// The place of a promoted type's rank among the ranks.
+/// The type's place in the order of the ranks (C11 6.3.1.1p1).
 fn rank(t: IntType) -> u8
     ensures { result ≡ rules.rank t }
 {
@@ -71,6 +72,7 @@ fn rank(t: IntType) -> u8
     }
 }
 
+/// The unsigned type that corresponds to a promoted type (C11 6.2.5p6).
 fn unsigned_of(t: IntType) -> IntType
     ensures { result ≡ rules.unsigned_of t }
 {
