@@ -4,12 +4,14 @@ use Rattle.cx_tree.specs.declared.types.Platform.{Platform}
 use Rattle.cx_tree.specs.declared.types.Platform.TheVariants.{Unix32, Unix64, Win64}
 use Rattle.cx_tree.specs.declared.types.IntType.{IntType}
 use Rattle.cx_tree.specs.declared.types.IntType.TheVariants as ctype
-use Rattle.cx_tree.specs.ConversionRules.{promote, common}
+use Rattle.cx_tree.specs.ConversionRules.{promote, common, usual}
 use Rattle.cx_tree.specs.Laws.{PromotesValues, IsUsualSymmetric}
 
 -- what holds of each promoted type
-each_promoted : (P : IntType → Type 0) → P ctype.Int → P ctype.UnsignedInt → P ctype.Long → P ctype.UnsignedLong → P ctype.LongLong → P ctype.UnsignedLongLong
+each_promoted : (P : IntType → Type 0) → P ctype.Int → P ctype.UnsignedInt → P ctype.Long → P ctype.UnsignedLong
+    → P ctype.LongLong → P ctype.UnsignedLongLong
     → (t : IntType) (p : Platform) → P (promote t p)
+unfolding promote
 each_promoted P i ui l ul ll ull ctype.Bool p = i
 each_promoted P i ui l ul ll ull ctype.Char p = i
 each_promoted P i ui l ul ll ull ctype.SignedChar p = i
@@ -36,9 +38,11 @@ with_promoted a b p =
     a p
 
 pub usual_symmetric : IsUsualSymmetric
+unfolding usual
 usual_symmetric a b p = with_promoted a b p
 
 pub promotes_values : PromotesValues
+unfolding promote
 promotes_values ctype.Bool p = refl
 promotes_values ctype.Char p = refl
 promotes_values ctype.SignedChar p = refl

@@ -14,7 +14,7 @@ use Rattle.cx_tree.specs.declared.types.Width.TheVariants.{Bits8, Bits16, Bits32
 use Rattle.cx_tree.specs.declared.operators.Op.{Op}
 use Rattle.cx_tree.specs.declared.operators.Op.TheVariants as operator
 use Rattle.cx_tree.specs.IntegerTypes.{kind, width, span, sign_bit, least_of, greatest_of}
-use Rattle.cx_tree.specs.ConversionRules.{signed_value, convert_to}
+use Rattle.cx_tree.specs.ConversionRules.{signed_value, convert_to, convert}
 use Rattle.cx_tree.specs.Arithmetic.{fit_in, fit, divide, shift_count, is_negative_of_signed, truth, arith as of_operator}
 use Rattle.cx_tree.specs.Laws.{ConvertsByMultiple, GivesValues}
 
@@ -75,7 +75,8 @@ convert_within Unsigned w x =
 abbrev Multiple : Width → ℤ → ℤ → Type 0
 Multiple w y x = (j : ℕ) × (k : ℕ) × (y +ℤ pos (j * span w) ≡ x +ℤ pos (k * span w))
 
-signed_multiple : (w : Width) (x : ℤ) (r : Remains x (span w)) (b : Bool) → Multiple w (cond b (pos r.rest) (pos r.rest -ℤ pos (span w))) x
+signed_multiple : (w : Width) (x : ℤ) (r : Remains x (span w)) (b : Bool)
+    → Multiple w (cond b (pos r.rest) (pos r.rest -ℤ pos (span w))) x
 signed_multiple w x r true = (r.less, r.more, r.sum)
 signed_multiple w x r false = let e = r.sum in (r.less + 1, r.more, omega (arith, ints))
 
@@ -105,6 +106,7 @@ boolean_is ctype.LongLong e = absurd (cc)
 boolean_is ctype.UnsignedLongLong e = absurd (cc)
 
 pub converts_by_multiple : ConvertsByMultiple
+unfolding convert
 converts_by_multiple t p x other = multiple (kind t) (width t p) x (λ e. other (boolean_is t e))
 
 -- ---- operators
@@ -115,7 +117,9 @@ some_is x y e = cc
 converted_within : (k : Kind) (w : Width) (x y : ℤ) → Some (convert_to k w x) ≡ Some y → IsWithin k w y
 converted_within k w x y e = subst (λ (z : ℤ). IsWithin k w z) (some_is _ _ e) (convert_within k w x)
 
-signed_fits : (w : Width) (x y : ℤ) (b : Bool) → (int_le (least_of Signed w) x && int_le x (greatest_of Signed w)) ≡ b → cond b (Some x) None ≡ Some y → IsWithin Signed w y
+signed_fits : (w : Width) (x y : ℤ) (b : Bool)
+    → (int_le (least_of Signed w) x && int_le x (greatest_of Signed w)) ≡ b → cond b (Some x) None ≡ Some y
+    → IsWithin Signed w y
 signed_fits w x y true h e = let i = some_is x y e in record { low = grind (arith, ints); high = grind (arith, ints) }
 signed_fits w x y false h e = absurd (cc)
 
@@ -140,7 +144,8 @@ truth_within k w b y e = subst (λ (z : ℤ). IsWithin k w z) (some_is _ _ e) (o
     of_either Unsigned Bits64 b = grind (arith, ints)
 
 -- what is so of each result of a step is so of what two steps give
-after_step : {A : Type 0} (f : A → Option ℤ) (o : Option A) (P : ℤ → Type 0) → ((n : A) (y : ℤ) → f n ≡ Some y → P y) → (y : ℤ) → option_and_then f o ≡ Some y → P y
+after_step : {A : Type 0} (f : A → Option ℤ) (o : Option A) (P : ℤ → Type 0) → ((n : A) (y : ℤ) → f n ≡ Some y → P y)
+    → (y : ℤ) → option_and_then f o ≡ Some y → P y
 after_step f None P h y e = absurd (cc)
 after_step f (Some n) P h y e = h n y e
 
@@ -148,16 +153,27 @@ unless : (b : Bool) (o : Option ℤ) (y : ℤ) → cond b None o ≡ Some y → 
 unless true o y e = absurd (cc)
 unless false o y e = e
 
-result_within : (o : Op) (t : IntType) (p : Platform) (a b y : ℤ) → of_operator o t p a b ≡ Some y → IsWithin (kind t) (width t p) y
+result_within : (o : Op) (t : IntType) (p : Platform) (a b y : ℤ) → of_operator o t p a b ≡ Some y
+    → IsWithin (kind t) (width t p) y
+unfolding of_operator convert
 result_within operator.Multiply t p a b y e = fit_within _ _ _ y e
 result_within operator.Add t p a b y e = fit_within _ _ _ y e
 result_within operator.Subtract t p a b y e = fit_within _ _ _ y e
 result_within operator.Complement t p a b y e = fit_within _ _ _ y e
 result_within operator.Negate t p a b y e = fit_within _ _ _ y e
 result_within operator.Divide t p a b y e = fit_within _ _ _ y (unless (int_eq b (pos 0)) _ y e)
-result_within operator.Remainder t p a b y e = after_step (λ (_ : ℤ). fit t p (a -ℤ (int_div a b *ℤ b))) (divide t p a b) (IsWithin (kind t) (width t p)) (λ _ z h. fit_within _ _ _ z h) y e
-result_within operator.ShiftLeft t p a b y e = after_step (λ (n : ℕ). cond (is_negative_of_signed (kind t) a) None (fit t p (a *ℤ pos (2 ^ n)))) (shift_count t p b) (IsWithin (kind t) (width t p)) (λ n z h. fit_within _ _ _ z (unless (is_negative_of_signed (kind t) a) _ z h)) y e
-result_within operator.ShiftRight t p a b y e = after_step (λ (n : ℕ). fit t p (int_div_euclid a (pos (2 ^ n)))) (shift_count t p b) (IsWithin (kind t) (width t p)) (λ n z h. fit_within _ _ _ z h) y e
+result_within operator.Remainder t p a b y e =
+    after_step (λ (_ : ℤ). fit t p (a -ℤ (int_div a b *ℤ b)))
+    (divide t p a b) (IsWithin (kind t) (width t p))
+    (λ _ z h. fit_within _ _ _ z h) y e
+result_within operator.ShiftLeft t p a b y e =
+    after_step (λ (n : ℕ). cond (is_negative_of_signed (kind t) a) None (fit t p (a *ℤ pos (2 ^ n))))
+    (shift_count t p b) (IsWithin (kind t) (width t p))
+    (λ n z h. fit_within _ _ _ z (unless (is_negative_of_signed (kind t) a) _ z h)) y e
+result_within operator.ShiftRight t p a b y e =
+    after_step (λ (n : ℕ). fit t p (int_div_euclid a (pos (2 ^ n))))
+    (shift_count t p b) (IsWithin (kind t) (width t p))
+    (λ n z h. fit_within _ _ _ z h) y e
 result_within operator.BitAnd t p a b y e = converted_within _ _ _ y e
 result_within operator.BitXor t p a b y e = converted_within _ _ _ y e
 result_within operator.BitOr t p a b y e = converted_within _ _ _ y e

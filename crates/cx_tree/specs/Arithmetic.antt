@@ -67,7 +67,7 @@ abbrev pub truth : Bool → Option ℤ
 truth holds = Some (if holds then pos 1 else pos 0)
 
 -- C11 6.5.3.3 and 6.5.5 to 6.5.12: each operator; - and ~ take a alone, and ~ gives -a - 1 (6.2.6.2p2)
-abbrev pub arith : Op → IntType → Platform → ℤ → ℤ → Option ℤ
+unfoldable pub arith : Op → IntType → Platform → ℤ → ℤ → Option ℤ
 arith operator.Multiply t p a b = fit t p (a *ℤ b)
 arith operator.Divide t p a b = divide t p a b
 arith operator.Remainder t p a b = remainder t p a b

@@ -33,6 +33,7 @@ fn signed_value(w: Width, low: i128) -> i128
 
 /// What a value becomes when it is converted to a type (C11 6.3.1.2 and 6.3.1.3): 0 or 1 in `_Bool`, the rest modulo
 /// a power of two in an unsigned type, and in a signed type the value that its low bits have in two's complement.
+#[tactic(auto, unfolding(crate::specs::ConversionRules::convert))]
 pub fn convert(t: IntType, p: Platform, value: i128) -> i128
     ensures { result ≡ rules.convert t p value }
 {
@@ -44,6 +45,7 @@ pub fn convert(t: IntType, p: Platform, value: i128) -> i128
 }
 
 /// The type that an operand of type `t` is promoted to (C11 6.3.1.1p2).
+#[tactic(auto, unfolding(crate::specs::ConversionRules::promote))]
 pub fn promote(t: IntType, p: Platform) -> IntType
     ensures { result ≡ rules.promote t p }
 {
@@ -111,6 +113,7 @@ fn common(a: IntType, b: IntType, p: Platform) -> IntType
 }
 
 /// The common type of two operands (C11 6.3.1.8, the usual arithmetic conversions).
+#[tactic(auto, unfolding(crate::specs::ConversionRules::usual))]
 pub fn usual(a: IntType, b: IntType, p: Platform) -> IntType
     ensures { result ≡ rules.usual a b p }
 {

@@ -34,6 +34,7 @@ pub enum Op {
 }
 
 /// A result in its type: converted to an unsigned type or `_Bool`, and `None` where a signed type does not hold it.
+#[tactic(auto, unfolding(crate::specs::ConversionRules::convert))]
 fn fit(t: IntType, p: Platform, value: i128) -> Option<i128>
     ensures { result ≡ rules.fit t p value }
 {
@@ -204,6 +205,7 @@ fn truth(holds: bool) -> Option<i128>
 
 /// The result of an operator on two operands of type `t`, `None` exactly where C11 leaves it undefined
 /// (6.5p5, 6.5.5 to 6.5.12; for `Complement` and `Negate` 6.5.3.3).
+#[tactic(auto, unfolding(crate::specs::Arithmetic::arith))]
 pub fn arith(op: Op, t: IntType, p: Platform, a: i128, b: i128) -> Option<i128>
     ensures { result ≡ rules.arith op t p a b }
 {
