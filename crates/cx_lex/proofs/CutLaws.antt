@@ -1,19 +1,18 @@
 -- Whatever pieces a text has, the lexer cuts it into them.
-use Rattle.std.proofs.Common.{◌≡◌, ℕ, ◌+◌, ◌≤◌, List, [], ◌∷◌, ◌++◌, Option, Some, None, Bool, true, false, not, ◌&&◌, ◌||◌, refl, sym, ap, ap₂, ◌∙◌, subst, arith, append_assoc, append-nil, ◌⊎◌, inl, inr, ⊎_elim, codes, length, Contains}
+use Rattle.std.proofs.Common.{◌≡◌, ℕ, List, [], ◌∷◌, ◌++◌, Some, Bool, true, false, not, ◌&&◌, ◌||◌, refl, sym, ap, ap₂, ◌∙◌, subst, arith, append_assoc, append-nil, ◌⊎◌, ⊎_elim, codes, Contains}
 use Rattle.std.specs.List.{list_all, list_any}
 use Rattle.std.proofs.lemmas.Bool.{cond-true, cond-false, and_parts, and_from, both_ways, cases_Bool}
 use Rattle.cx_base.specs.declared.place.Place.{Place}
-use Rattle.cx_lex.specs.declared.first_lexer.State.{State}
 use Rattle.cx_lex.specs.declared.first_lexer.State.TheVariants.{Between, Word}
 use Rattle.cx_lex.specs.declared.spot.Spot.{Spot}
 use Rattle.cx_lex.specs.declared.token.Kind.{Kind}
 use Rattle.cx_lex.specs.declared.token.Kind.TheVariants.{Name, Number, Punct}
 use Rattle.cx_lex.specs.declared.token.Piece.{Piece}
-use Rattle.cx_lex.specs.Characters.{is_blank, is_mark, is_newline, is_permitted, is_word}
+use Rattle.cx_lex.specs.Characters.{is_blank, is_mark, is_newline, in_alphabet, is_word}
 use Rattle.cx_lex.specs.Cut.{closed, cut, extended, is_pair, joined, joins, kind_of, mark_of, next, one_piece, piece_of}
 use Rattle.cx_lex.specs.Forms.{IsLongest, IsPermitted, IsToken, punctuators}
-use Rattle.cx_lex.specs.Pieces.{BeginsWith, FirstPieces, Front, Pieces, StandsNowhere, after, after_byte, behind, start}
-use Rattle.cx_lex.proofs.FormLaws.{all_left, all_right, begins_word, longest_stops, mark_not_blank, mark_not_word, name_kind, no_empty_punctuator, number_kind, pair_long, punctuator_no_word, word_not_blank}
+use Rattle.cx_lex.specs.Pieces.{FirstPieces, Front, Pieces, StandsNowhere, after, after_byte, behind, start}
+use Rattle.cx_lex.proofs.FormLaws.{all_right, begins_word, longest_stops, mark_not_blank, mark_not_word, name_kind, no_empty_punctuator, number_kind, pair_long, punctuator_no_word, word_not_blank}
 use Rattle.cx_lex.proofs.Going.{cut_end, cut_other, cut_word}
 use Rattle.cx_lex.proofs.Joined.{joined_empty, joined_nil, joined_some}
 
@@ -150,7 +149,7 @@ front_mark spot b rest m j =
 
 -- no comment stands in a text of permitted characters
 pub record Plain (text : List ℕ) : Type 0 where
-  pub characters : list_all is_permitted text ≡ true
+  pub characters : list_all in_alphabet text ≡ true
   pub block : StandsNowhere (codes "/*") text
   pub line : StandsNowhere (codes "//") text
 
@@ -160,13 +159,13 @@ nowhere_behind word (x ∷ xs) ys h = nowhere_behind word xs ys h.1
 
 plain_behind : (xs ys : List ℕ) → Plain (xs ++ ys) → Plain ys
 plain_behind xs ys h = record {
-  characters = all_right is_permitted xs ys h.characters;
+  characters = all_right in_alphabet xs ys h.characters;
   block = nowhere_behind (codes "/*") xs ys h.block;
   line = nowhere_behind (codes "//") xs ys h.line;
 }
 
-permitted_mark : (b : ℕ) → is_permitted b ≡ true → is_word b ≡ false → is_blank b ≡ false → is_mark b ≡ true
-unfolding is_permitted
+permitted_mark : (b : ℕ) → in_alphabet b ≡ true → is_word b ≡ false → is_blank b ≡ false → is_mark b ≡ true
+unfolding in_alphabet
 permitted_mark b p w k = grind arith
 
 no_join : (b : ℕ) (rest : List ℕ) → IsLongest (b ∷ []) rest → Plain (b ∷ rest) → joins b rest ≡ false
@@ -195,7 +194,7 @@ front Number spot (c ∷ cs) rest t p l h = let k = number_kind c cs p in front_
 front Punct spot [] rest t p l h = absurd (no_empty_punctuator t)
 front Punct spot (b ∷ []) rest t p l h =
     let w = punctuator_no_word b [] t in
-    let c = and_parts (is_permitted b) (list_all is_permitted rest) h.characters in
+    let c = and_parts (in_alphabet b) (list_all in_alphabet rest) h.characters in
     front_mark spot b rest (permitted_mark b c.0 w.0 w.1) (no_join b rest l h)
 front Punct spot (b ∷ c ∷ cs) rest t p l h = absurd (omega (arith, p))
 front _ spot t' rest t p l h = absurd t

@@ -1,11 +1,10 @@
 -- The value of a number, digit by digit.
-use Rattle.std.proofs.Common.{◌≡◌, ℕ, ◌+◌, ◌-◌, ◌*◌, ◌≤◌, List, [], ◌∷◌, Option, Some, None, Bool, true, false, refl, sym, ap, ◌∙◌, subst, cond, fold, is_some, ◌&&◌, ◌==◌, arith, MatchOption, ◌⊎◌, inl, inr, ⊎_elim}
+use Rattle.std.proofs.Common.{◌≡◌, ℕ, ◌+◌, ◌-◌, ◌*◌, ◌≤◌, List, [], ◌∷◌, Option, Some, None, true, false, refl, sym, ap, ◌∙◌, subst, cond, fold, ◌&&◌, ◌==◌, arith, MatchOption, ⊎_elim}
 use Rattle.std.specs.List.{list_all}
 use Rattle.std.proofs.lemmas.Bool.{cond-true, cond-false, and_parts, and_from, leb-true, le-leb, eqb-true, eq-eqb, cases_Bool}
-use Rattle.std.proofs.lemmas.Bool.Decides.{nat_tests}
 use Rattle.cx_lex.specs.Characters.{is_digit}
 use Rattle.cx_lex.specs.Cut.{digits_from, is_longer, takes_digit, value_of}
-use Rattle.cx_lex.specs.Forms.{IsDecimal, IsIntConstant, greatest, number_of}
+use Rattle.cx_lex.specs.Forms.{IsIntConstant, greatest, number_of}
 
 pub digits_end : (value : ℕ) → digits_from value [] ≡ Some value
 unfolding digits_from

@@ -1,5 +1,5 @@
 -- Lists of pieces that may be refused, one behind the other.
-use Rattle.std.proofs.Common.{◌≡◌, List, [], ◌∷◌, ◌++◌, Option, Some, None, refl, ap, append_assoc, append-nil}
+use Rattle.std.proofs.Common.{◌≡◌, List, [], ◌++◌, Option, Some, None, refl, ap, append_assoc, append-nil}
 use Rattle.cx_lex.specs.declared.token.Piece.{Piece}
 use Rattle.cx_lex.specs.Cut.{joined}
 

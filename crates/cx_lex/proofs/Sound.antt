@@ -1,7 +1,7 @@
 -- What the lexer cuts a text into are pieces of it.
 use Rattle.std.proofs.Common.{◌≡◌, ℕ, List, [], ◌∷◌, ◌++◌, Option, Some, None, Bool, true, false, not, ◌&&◌, ◌||◌, refl, sym, ap, ap₂, ◌∙◌, subst, subst₂, arith, append_assoc, append-nil, ◌⊎◌, inl, inr, ⊎_elim, codes, IfSome, filter, flat_map, cond}
 use Rattle.std.specs.List.{list_all, list_any}
-use Rattle.std.proofs.lemmas.Bool.{cond-true, cond-false, and_parts, and_from, both_ways, cases_Bool, not-true, not-false}
+use Rattle.std.proofs.lemmas.Bool.{cond-true, cond-false, and_parts, and_from, cases_Bool, not-true}
 use Rattle.std.proofs.lemmas.List.Elements.{filter-append}
 use Rattle.std.proofs.lemmas.Bool.Decides.{nat_tests}
 use Rattle.cx_lex.specs.declared.first_lexer.State.{State}
@@ -10,9 +10,9 @@ use Rattle.cx_lex.specs.declared.spot.Spot.{Spot}
 use Rattle.cx_lex.specs.declared.token.Kind.{Kind}
 use Rattle.cx_lex.specs.declared.token.Kind.TheVariants.{Punct}
 use Rattle.cx_lex.specs.declared.token.Piece.{Piece}
-use Rattle.cx_lex.specs.Characters.{is_blank, is_digit, is_mark, is_newline, is_nondigit, is_permitted, is_word}
+use Rattle.cx_lex.specs.Characters.{is_blank, is_digit, is_mark, is_newline, is_nondigit, in_alphabet, is_word}
 use Rattle.cx_lex.specs.Cut.{closed, cut, extended, is_pair, joined, joins, kind_of, mark_of, next, one_piece, piece_of}
-use Rattle.cx_lex.specs.Pieces.{BeginsWith, FirstPieces, Front, Pieces, StandsNowhere, after, after_byte, behind, start}
+use Rattle.cx_lex.specs.Pieces.{BeginsWith, FirstPieces, Pieces, behind, start}
 use Rattle.cx_lex.proofs.CutLaws.{Plain, behind_more, closed_between, closed_word, mark_blank, mark_some, next_solid, or_false}
 use Rattle.cx_lex.proofs.FormLaws.{Stops, all_both, joins_is, mark_longest, mark_not_blank, mark_punctuator, token_solid, word_form, word_longest, word_not_blank}
 use Rattle.cx_lex.proofs.Going.{cut_end, cut_other, cut_word}
@@ -228,19 +228,19 @@ line_pair : is_pair 47 47 ≡ true
 unfolding is_pair
 line_pair = refl
 
-word_permitted : (b : ℕ) → is_word b ≡ true → is_permitted b ≡ true
-unfolding is_permitted
+word_permitted : (b : ℕ) → is_word b ≡ true → in_alphabet b ≡ true
+unfolding in_alphabet
 word_permitted b w = grind arith
 
-blank_permitted : (b : ℕ) → is_blank b ≡ true → is_permitted b ≡ true
-unfolding is_permitted
+blank_permitted : (b : ℕ) → is_blank b ≡ true → in_alphabet b ≡ true
+unfolding in_alphabet
 blank_permitted b w = grind arith
 
-mark_permitted : (b : ℕ) → is_mark b ≡ true → is_permitted b ≡ true
-unfolding is_permitted
+mark_permitted : (b : ℕ) → is_mark b ≡ true → in_alphabet b ≡ true
+unfolding in_alphabet
 mark_permitted b w = grind arith
 
-plain_more : (b : ℕ) (bs : List ℕ) → is_permitted b ≡ true → (¬ BeginsWith (codes "/*") (b ∷ bs)) → (¬ BeginsWith (codes "//") (b ∷ bs)) → Plain bs → Plain (b ∷ bs)
+plain_more : (b : ℕ) (bs : List ℕ) → in_alphabet b ≡ true → (¬ BeginsWith (codes "/*") (b ∷ bs)) → (¬ BeginsWith (codes "//") (b ∷ bs)) → Plain bs → Plain (b ∷ bs)
 plain_more b bs p k l h = record { characters = and_from _ _ p h.characters; block = (k, h.block); line = (l, h.line) }
 
 plain_fits : (b : ℕ) (bs : List ℕ) → Fits b bs → Plain bs → Plain (b ∷ bs)

@@ -1,5 +1,5 @@
 -- Characters of a source, by their codes.
-use Rattle.std.specs.Prelude.{ℕ, List, Bool, ◌&&◌, ◌||◌, ◌==◌, nat_le, codes}
+use Rattle.std.specs.Prelude.{ℕ, Bool, ◌&&◌, ◌||◌, ◌==◌, nat_le, codes}
 use Rattle.std.specs.List.{list_any}
 
 -- a digit (C11 5.2.1)
@@ -27,5 +27,5 @@ unfoldable pub is_mark : ℕ → Bool
 is_mark b = list_any (λ mark. b == mark) (codes "(){};,=+-*/")
 
 -- the characters that a text of this language has
-unfoldable pub is_permitted : ℕ → Bool
-is_permitted b = (is_word b || is_blank b) || is_mark b
+unfoldable pub in_alphabet : ℕ → Bool
+in_alphabet b = (is_word b || is_blank b) || is_mark b

@@ -1,5 +1,5 @@
 -- What the lexer computes, byte by byte.
-use Rattle.std.specs.Prelude.{◌≡◌, ℕ, ◌+◌, ◌-◌, ◌*◌, List, [], ◌∷◌, ◌++◌, Bool, true, false, not, cond, ◌&&◌, ◌||◌, ◌==◌, nat_le, Option, Some, None, is_some}
+use Rattle.std.specs.Prelude.{ℕ, ◌+◌, ◌-◌, ◌*◌, List, [], ◌∷◌, ◌++◌, Bool, true, false, not, cond, ◌&&◌, ◌||◌, ◌==◌, nat_le, Option, Some, None, is_some}
 use Rattle.cx_lex.specs.declared.spot.Spot.{Spot}
 use Rattle.cx_lex.specs.declared.first_lexer.Lexer.{Lexer}
 use Rattle.cx_lex.specs.declared.first_lexer.State.{State}

@@ -1,10 +1,10 @@
 -- How a text of the first language falls into preprocessing tokens.
-use Rattle.std.specs.Prelude.{◌≡◌, ℕ, ◌+◌, List, [], ◌∷◌, ◌++◌, Bool, true, false, ◌||◌, fold, if◌then◌else◌, codes}
+use Rattle.std.specs.Prelude.{◌≡◌, ℕ, ◌+◌, List, [], ◌∷◌, ◌++◌, true, false, ◌||◌, if◌then◌else◌, codes}
 use Rattle.std.specs.List.{list_all, list_any}
 use Rattle.cx_base.specs.declared.place.Place.{Place}
 use Rattle.cx_lex.specs.declared.spot.Spot.{Spot}
 use Rattle.cx_lex.specs.declared.token.Piece.{Piece}
-use Rattle.cx_lex.specs.Characters.{is_blank, is_newline, is_permitted}
+use Rattle.cx_lex.specs.Characters.{is_blank, is_newline, in_alphabet}
 use Rattle.cx_lex.specs.Forms.{IsToken, IsLongest, IsPermitted}
 
 -- the place behind a byte that stands at a place: a newline ends its line (C11 5.1.1.2)
@@ -57,7 +57,7 @@ StandsNowhere word (b ∷ bs) = (¬ BeginsWith word (b ∷ bs)) × StandsNowhere
 
 -- A text of the first language, and its pieces.
 pub record FirstPieces (text : List ℕ) (pieces : List Piece) : Type 0 where
-  pub characters : list_all is_permitted text ≡ true
+  pub characters : list_all in_alphabet text ≡ true
   -- no comment (C11 6.4.9)
   pub block : StandsNowhere (codes "/*") text
   pub line : StandsNowhere (codes "//") text

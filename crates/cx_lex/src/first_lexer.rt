@@ -1,6 +1,6 @@
 //! The lexer of the first language: names, decimal numbers and punctuators of one byte, with no
 //! comment, no macro and no literal.
-ghost use Rattle.std.specs.Prelude.{◌≡◌, ℕ, ◌+◌, ◌<◌, ◌≤◌, ◌^◌, List as list, [], ◌∷◌, ◌++◌, Some, None, Option, IfOk, IfSome, OnOk, true, not, ◌&&◌, if◌then◌else◌, length, filter, flat_map};
+ghost use Rattle.std.specs.Prelude.{◌≡◌, ℕ, ◌+◌, ◌<◌, ◌≤◌, ◌^◌, List as list, [], ◌∷◌, ◌++◌, Some, None, Option, IfOk, IfSome, IsTrue, OnOk, true, not, ◌&&◌, if◌then◌else◌, length, filter, flat_map};
 ghost use Rattle.cx_lex.specs.declared.first_lexer.State.TheVariants.{Between};
 ghost use Rattle.cx_lex.specs.declared.token.Kind.TheVariants.{Punct};
 ghost use Rattle.cx_lex.specs.declared.token.Piece.{Piece as piece};
@@ -83,14 +83,13 @@ impl Lexer {
         requires line { self.old.spot.place.line + 1 < 2 ^ 32 }
         requires column { self.old.spot.place.column + 1 < 2 ^ 32 }
         ensures going { IfOk result (λ fits. going self.old (byte ∷ rest.now) ≡ (if fits then going self.new rest.now else None)) }
-        ensures spot { OnOk result (self.new.spot ≡ next self.old.spot byte) }
+        ensures spot { IfOk result (λ fits. IsTrue fits → self.new.spot ≡ next self.old.spot byte) }
     {
         if is_word(byte) {
             self.extend(alloc, byte)?;
             return Ok(true);
         }
         if !self.close(alloc)? {
-            self.spot = self.spot.after(byte);
             return Ok(false);
         }
         self.mark(alloc, byte, rest)
@@ -244,6 +243,7 @@ fn piece_of(alloc: Global, spot: Spot, kind: Kind, text: Text) -> Piece
 #[cfg(test)]
 mod tests {
     use super::*;
+    use crate::number::number_value;
     use std::alloc::AllocError;
     use std::str;
 
@@ -311,12 +311,25 @@ mod tests {
     #[test]
     fn texts_fall_into_pieces(rt: HostRuntime) {
         for (text, expected) in TEXTS {
+            assert!(rt; text.len() < 1000);
             let found = lex_first(rt.alloc(), text.as_bytes()).expect(&rt, "memory");
             let shown = match &found {
                 None => format!(in rt.alloc(); "none"),
                 Some(pieces) => shown(rt.alloc(), pieces.as_slice()),
             };
             assert_eq!(rt; shown.expect(&rt, "memory").as_str(), expected, "at {text}");
+        }
+    }
+
+    #[test]
+    fn numbers_have_values(rt: HostRuntime) {
+        for (text, value) in [
+            ("0", Some(0)),
+            ("42", Some(42)),
+            ("2147483647", Some(2147483647)),
+            ("042", None),
+        ] {
+            assert_eq!(rt; number_value(text.as_bytes()), value, "at {text}");
         }
     }
 }
