@@ -302,7 +302,7 @@ no_more Number kind c cs d ds a e w n t =
     let k = kind_digit c cs kind u.0 e in
     let p = and_parts _ _ k.1.0.0 in
     ⊎_elim (λ (v : is_word d ≡ true). absurd cc) n (goes_on_digits c cs d ds p.0 p.1 u.1))
-    (λ (u : (rest : List ℕ) × (c ∷ (cs ++ d ∷ ds) ≡ 46 ∷ rest) × BeginsWithDigit rest).
+    (λ (u : (rest : List ℕ) × (c ∷ (cs ++ d ∷ ds) ≡ codes "." ++ rest) × BeginsWithDigit rest).
     let p = and_parts _ _ a in let e = u.1 in word_not_dot c p.0 cc)
     t
 no_more Punct kind c cs d ds a e w n t =
@@ -327,7 +327,7 @@ no_more_mark Name b d ds m p t = let w = nondigit_word b t.0 in let n = mark_not
 no_more_mark Number b d ds m p t =
     ⊎_elim
     (λ (u : BeginsWithDigit (b ∷ d ∷ ds)). let w = digit_word b u.0 in let n = mark_not_word b m in cc)
-    (λ (u : (rest : List ℕ) × (b ∷ d ∷ ds ≡ 46 ∷ rest) × BeginsWithDigit rest). let e = u.1 in mark_not_dot b m cc)
+    (λ (u : (rest : List ℕ) × (b ∷ d ∷ ds ≡ codes "." ++ rest) × BeginsWithDigit rest). let e = u.1 in mark_not_dot b m cc)
     t
 no_more_mark Punct b d ds m p t = let l = longer_pair b d ds t m in cc
 no_more_mark _ b d ds m p t = t

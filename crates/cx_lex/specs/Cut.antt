@@ -16,43 +16,54 @@ abbrev pub is_longer : List ℕ → Bool
 is_longer [] = false
 is_longer (b ∷ bs) = true
 
+-- a digit that leaves a value within the range of `int`
 unfoldable pub takes_digit : ℕ → ℕ → Bool
 takes_digit value b = is_digit b && nat_le (10 * value + (b - 48)) greatest
 
+-- the value behind these digits
 unfoldable pub digits_from : ℕ → List ℕ → Option ℕ
 digits_from value [] = Some value
 digits_from value (b ∷ bs) = cond (takes_digit value b) (digits_from (10 * value + (b - 48)) bs) None
 
+-- the value of a decimal constant
 unfoldable pub value_of : List ℕ → Option ℕ
 value_of [] = None
 value_of (b ∷ bs) = cond ((b == 48) && is_longer bs) None (digits_from 0 (b ∷ bs))
 
+-- a word that begins with a digit
 unfoldable pub starts_number : List ℕ → Bool
 starts_number [] = false
 starts_number (b ∷ bs) = is_digit b
 
+-- the kind of a word, where the language permits it
 unfoldable pub kind_of : List ℕ → Option Kind
 kind_of word = cond (starts_number word) (cond (is_some (value_of word)) (Some Number) None) (Some Name)
 
+-- where the byte behind b stands
 unfoldable pub next : Spot → ℕ → Spot
 next spot b = record { place = after_byte spot.place b; space = is_blank b; first_on_line = is_blank b && (spot.first_on_line || is_newline b) }
 
+-- a piece that begins at a spot
 unfoldable pub piece_of : Spot → Kind → List ℕ → Piece
 piece_of spot kind text = record { token = record { kind = kind; text = text; place = spot.place; hide = []; space = spot.space }; first_on_line = spot.first_on_line }
 
+-- one list behind the other, where neither is refused
 unfoldable pub joined : Option (List Piece) → Option (List Piece) → Option (List Piece)
 joined None more = None
 joined (Some ps) None = None
 joined (Some ps) (Some more) = Some (ps ++ more)
 
+-- the piece of a word whose kind is known
 unfoldable pub one_piece : Spot → List ℕ → Option Kind → Option (List Piece)
 one_piece spot text None = None
 one_piece spot text (Some kind) = Some (piece_of spot kind text ∷ [])
 
+-- the state behind a byte of a word
 unfoldable pub extended : Spot → ℕ → State → State
 extended spot b Between = Word spot (b ∷ [])
 extended spot b (Word begins text) = Word begins (text ++ b ∷ [])
 
+-- the pieces that end where no word goes on
 unfoldable pub closed : State → Option (List Piece)
 closed Between = Some []
 closed (Word begins text) = one_piece begins text (kind_of text)
@@ -64,13 +75,16 @@ is_pair b c =
     || (((b == 42) && (c == 61)) || ((b == 47) && (((c == 61) || (c == 47)) || (c == 42)))))
     || ((b == 61) && (c == 61))
 
+-- what stands behind b makes a pair with it
 unfoldable pub joins : ℕ → List ℕ → Bool
 joins b [] = false
 joins b (c ∷ cs) = is_pair b c
 
+-- the pieces of a byte of no word: none of a blank, one of a mark that stands alone
 unfoldable pub mark_of : Spot → ℕ → List ℕ → Option (List Piece)
 mark_of spot b bs = cond (is_blank b) (Some []) (cond (is_mark b && not (joins b bs)) (Some (piece_of spot Punct (b ∷ []) ∷ [])) None)
 
+-- the pieces of a text, with a word open in front of it
 unfoldable pub cut : Spot → State → List ℕ → Option (List Piece)
 cut spot state [] = closed state
 cut spot state (b ∷ bs) =

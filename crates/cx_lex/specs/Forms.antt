@@ -1,9 +1,9 @@
 -- The forms of preprocessing tokens, and those that the language permits.
-use Rattle.std.specs.Prelude.{◌≡◌, ℕ, ◌+◌, ◌-◌, ◌*◌, ◌≤◌, List, [], ◌∷◌, ◌++◌, Bool, true, ◌&&◌, ◌||◌, ◌==◌, ◌⊎◌, length, fold, Contains, codes}
+use Rattle.std.specs.Prelude.{◌≡◌, ℕ, ◌+◌, ◌-◌, ◌*◌, ◌≤◌, List, [], ◌∷◌, ◌++◌, Bool, true, ◌&&◌, ◌||◌, ◌⊎◌, length, fold, Contains, codes}
 use Rattle.std.specs.List.{list_all}
 use Rattle.cx_lex.specs.declared.token.Kind.{Kind}
 use Rattle.cx_lex.specs.declared.token.Kind.TheVariants.{Name, Number, Punct}
-use Rattle.cx_lex.specs.Characters.{is_digit, is_nondigit, is_word}
+use Rattle.cx_lex.specs.Characters.{is_digit, is_nondigit, is_one_of, is_word}
 
 -- an identifier: a nondigit, then nondigits and digits (C11 6.4.2.1)
 abbrev pub IsIdentifier : List ℕ → Type 0
@@ -12,7 +12,7 @@ IsIdentifier (b ∷ bs) = (is_nondigit b ≡ true) × (list_all is_word bs ≡ t
 
 -- whether a preprocessing number goes on with b behind its character `last` (C11 6.4.8)
 unfoldable pub goes_on : ℕ → ℕ → Bool
-goes_on last b = (is_word b || (b == 46)) || ((((last == 101) || (last == 69)) || ((last == 112) || (last == 80))) && ((b == 43) || (b == 45)))
+goes_on last b = (is_word b || is_one_of (codes ".") b) || (is_one_of (codes "eEpP") last && is_one_of (codes "+-") b)
 
 -- a preprocessing number goes on with these characters behind its character `last` (C11 6.4.8)
 abbrev pub GoesOn : ℕ → List ℕ → Type 0
@@ -26,7 +26,7 @@ BeginsWithDigit (b ∷ bs) = (is_digit b ≡ true) × GoesOn b bs
 
 -- a preprocessing number: a digit or `.` with a digit, and what goes on behind it (C11 6.4.8)
 abbrev pub IsPpNumber : List ℕ → Type 0
-IsPpNumber text = BeginsWithDigit text ⊎ ((rest : List ℕ) × (text ≡ 46 ∷ rest) × BeginsWithDigit rest)
+IsPpNumber text = BeginsWithDigit text ⊎ ((rest : List ℕ) × (text ≡ codes "." ++ rest) × BeginsWithDigit rest)
 
 -- the punctuators (C11 6.4.6)
 unfoldable pub punctuators : List (List ℕ)
