@@ -301,7 +301,7 @@ const ERR_FAULT: Case = Case {
 
 fn try_cases(rt: &(impl Abort + AllocGlobal), cases: &[Case]) -> Result<(), Fail> {
     for case in cases {
-        try_case(rt, rt.alloc(), case)?;
+        try_case(rt, rt.alloc(), case, case.files)?;
     }
     Ok(())
 }

@@ -7,6 +7,7 @@ pub use words::are_in_bounds;
 
 mod asking;
 mod deciding;
+mod finding;
 mod pieces;
 mod report;
 mod run_all;
