@@ -1,0 +1,4 @@
+pub mod IntegerTypes
+pub mod ConversionRules
+pub mod Arithmetic
+pub mod Outside
