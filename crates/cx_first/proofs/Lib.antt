@@ -1,0 +1,4 @@
+pub mod TreeLaws
+pub mod CountingLaws
+pub mod RunLaws
+pub mod StepLaws

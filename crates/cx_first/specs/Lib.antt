@@ -1,0 +1,5 @@
+pub mod Tree
+pub mod Evaluation
+pub mod Counting
+pub mod Runs
+pub mod Steps
