@@ -5,9 +5,16 @@
 pub use evaluation::{evaluate, End, Evaluated, Undefined};
 pub use laws::{one_longest_run, runs_go_on, stuck_is_never_passed};
 pub use runs::{run, RunEnd};
+pub use signs::Sign;
+pub use statements::Awaits;
 pub use tree::{Expr, FirstText, Operator, Statement};
 
 mod evaluation;
+mod expressions;
+mod keywords;
 mod laws;
+mod names;
 mod runs;
+mod signs;
+mod statements;
 mod tree;

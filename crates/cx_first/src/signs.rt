@@ -1,0 +1,171 @@
+//! What a piece is to the grammar of a first text.
+ghost use Rattle.std.specs.Prelude.{◌≡◌, ◌≤◌, [], ◌∷◌, length, IfSome, MatchOption};
+ghost use Rattle.cx_first.specs.Signs as meaning;
+
+use crate::keywords::{equals, is_keyword};
+use cx_lex::{Kind, Piece};
+
+/// The sign of a piece: all that the grammar asks of it but its text and its place.
+#[derive(Clone, Copy, Debug, PartialEq, Eq)]
+pub enum Sign {
+    /// `int`
+    Int,
+    /// `void`
+    Void,
+    /// `return`
+    Return,
+    /// An identifier that is no keyword (C11 6.4.2.1).
+    Name,
+    /// A decimal number that is an int (C11 6.4.4.1), with its value.
+    Number(u32),
+    /// `(`
+    Open,
+    /// `)`
+    Close,
+    /// `{`
+    Begin,
+    /// `}`
+    End,
+    /// `,`
+    Comma,
+    /// `;`
+    Semicolon,
+    /// `=`
+    Equals,
+    /// `+`
+    Plus,
+    /// `-`
+    Minus,
+    /// `*`
+    Star,
+    /// `/`
+    Slash,
+    /// No piece of a first text.
+    Foreign,
+}
+
+/// The greatest int (C11 5.2.4.2.1).
+const GREATEST: u32 = 2_147_483_647;
+
+/// A word's sign.
+#[tactic(auto, unfolding(crate::specs::Signs::word))]
+fn word(text: &[u8]) -> Sign
+    ensures { result ≡ meaning.word text.now }
+{
+    if equals(text, b"int") {
+        Sign::Int
+    } else if equals(text, b"void") {
+        Sign::Void
+    } else if equals(text, b"return") {
+        Sign::Return
+    } else if is_keyword(text) {
+        Sign::Foreign
+    } else {
+        Sign::Name
+    }
+}
+
+/// A punctuator's sign, by its one byte.
+fn mark_of(byte: u8) -> Sign
+    ensures { result ≡ meaning.mark_of byte }
+{
+    match byte {
+        b'(' => Sign::Open,
+        b')' => Sign::Close,
+        b'{' => Sign::Begin,
+        b'}' => Sign::End,
+        b',' => Sign::Comma,
+        b';' => Sign::Semicolon,
+        b'=' => Sign::Equals,
+        b'+' => Sign::Plus,
+        b'-' => Sign::Minus,
+        b'*' => Sign::Star,
+        b'/' => Sign::Slash,
+        _ => Sign::Foreign,
+    }
+}
+
+/// A punctuator's sign.
+fn mark(text: &[u8]) -> Sign
+    ensures { result ≡ meaning.mark text.now }
+{
+    match text {
+        [byte] => mark_of(*byte),
+        _ => Sign::Foreign,
+    }
+}
+
+/// The value of a number with a digit more, where it is at most `most`.
+fn with_digit(most: u32, value: u32, byte: u8) -> Option<u32>
+    requires most { most ≤ 2147483647 }
+    requires value { value ≤ most }
+    ensures value { result ≡ meaning.with_digit most value byte }
+    ensures within { IfSome result (λ next. next ≤ most) }
+{
+    if !byte.is_ascii_digit() {
+        return None;
+    }
+    let value = u64::from(value) * 10 + u64::from(byte - b'0');
+    if value <= u64::from(most) {
+        Some(value as u32)
+    } else {
+        None
+    }
+}
+
+/// The value of the digits of a number, where it is at most `most`.
+#[tactic(auto, using(crate::proofs::SignLaws::digits_more, crate::proofs::SignLaws::digits_end))]
+fn digits(most: u32, text: &[u8]) -> Option<u32>
+    requires { most ≤ 2147483647 }
+    ensures { result ≡ meaning.digits_from most 0 text.now }
+{
+    let mut value = 0;
+    for byte in text {
+        match with_digit(most, value, *byte) {
+            Some(next) => {
+                value = next;
+                continue;
+            }
+            None => return None,
+        }
+    }
+    Some(value)
+}
+
+/// A number's sign, where its value is at most `most`.
+fn number(most: u32, text: &[u8]) -> Sign
+    requires { most ≤ 2147483647 }
+    ensures { result ≡ meaning.number most text.now }
+{
+    if text.is_empty() {
+        return Sign::Foreign;
+    }
+    match digits(most, text) {
+        Some(value) => Sign::Number(value),
+        None => Sign::Foreign,
+    }
+}
+
+/// The sign of a piece.
+#[tactic(auto, unfolding(crate::specs::Signs::sign))]
+pub(crate) fn sign_of(piece: &Piece) -> Sign
+    ensures { result ≡ meaning.sign piece.now }
+{
+    let text = piece.token.text.as_slice();
+    match piece.token.kind {
+        Kind::Name => word(text),
+        Kind::Number => number(GREATEST, text),
+        Kind::Punct => mark(text),
+        Kind::Char | Kind::String | Kind::Unclosed | Kind::Header | Kind::Other => Sign::Foreign,
+    }
+}
+
+/// The first piece, and those behind it.
+pub(crate) fn first<'a>(pieces: &'a [Piece]) -> Option<(&'a Piece, &'a [Piece])>
+    ensures { MatchOption result (pieces.now ≡ []) (λ x. pieces.now ≡ x.0.now ∷ x.1.now) }
+{
+    match pieces {
+        [] => None,
+        [piece, rest @ ..] => Some((piece, rest)),
+    }
+}
