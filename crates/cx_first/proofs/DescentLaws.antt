@@ -12,7 +12,7 @@ use Rattle.cx_first.specs.Tree.{Tree, tree_of, number, variable, negation, binar
 use Rattle.cx_first.specs.Names.{Names, index_of}
 use Rattle.cx_first.specs.Signs.{sign}
 use Rattle.cx_first.specs.Grammar.{Reads, a_number, a_variable, a_negation, in_brackets, a_chain, Chains, ends, goes_on, operator_of, level_of}
-use Rattle.cx_first.specs.Descent.{Stops, OperatorAt, NoOperator, ClosingAt, NoClosing}
+use Rattle.cx_first.specs.Descent.{Stops, OperatorAt, NoOperator, SignAt}
 use Rattle.cx_first.proofs.TreeLaws.{tree_number, tree_variable, tree_negation, tree_binary, tree_brackets}
 
 -- together
@@ -29,9 +29,9 @@ pub reads_negation : (names : Names) (p : Piece) (a : Expr) (ts rest : List Piec
 reads_negation names p a ts rest e f = rw tree_negation (a_negation e f)
 
 pub reads_brackets : (names : Names) (p : Piece) (a : Expr) (ts behind rest : List Piece) → sign p ≡ sign_is.Open
-    → Reads names 2 ts (tree_of a) behind → ClosingAt behind rest → Reads names 0 (p ∷ ts) (tree_of (Brackets a)) rest
+    → Reads names 2 ts (tree_of a) behind → SignAt sign_is.Close behind rest → Reads names 0 (p ∷ ts) (tree_of (Brackets a)) rest
 reads_brackets names p a ts behind rest e f g =
-    rw tree_brackets (in_brackets e (subst (λ b. Reads names 2 ts (tree_of a) b) g.whole f) g.closes)
+    rw tree_brackets (in_brackets e (subst (λ b. Reads names 2 ts (tree_of a) b) g.whole f) g.signed)
 
 pub reads_chain : (names : Names) (level below : ℕ) (ts mid rest : List Piece) (a t : Tree) → level ≡ below + 1
     → Reads names below ts a mid → Chains names level a mid t rest → Reads names level ts t rest
@@ -131,11 +131,11 @@ chains_end n (goes_on {p = p} {op = op} {ts = ts} f g h r c) = absurd (n op p ts
 pub brackets_same : (x a : Expr) (t inner : Tree) → x ≡ a → tree_of a ≡ inner → t ≡ brackets inner → tree_of (Brackets x) ≡ t
 brackets_same x a t inner e f g = tree_brackets x ∙ (ap (λ y. brackets (tree_of y)) e ∙ (ap brackets f ∙ sym g))
 
-pub closing_same : (pieces rest other : List Piece) (close : Piece) → ClosingAt pieces rest → pieces ≡ close ∷ other → rest ≡ other
-closing_same pieces rest other close c e = let k : c.close ∷ rest ≡ close ∷ other = sym c.whole ∙ e in cc
+pub sign_same : (wanted : Sign) (pieces rest other : List Piece) (p : Piece) → SignAt wanted pieces rest → pieces ≡ p ∷ other → rest ≡ other
+sign_same wanted pieces rest other p c e = let k : c.piece ∷ rest ≡ p ∷ other = sym c.whole ∙ e in cc
 
-pub closing_is : (pieces rest : List Piece) (close : Piece) → sign close ≡ sign_is.Close → pieces ≡ close ∷ rest → ClosingAt pieces rest
-closing_is pieces rest close c e = record { close = close; whole = e; closes = c }
+pub sign_is_at : (wanted : Sign) (pieces rest : List Piece) (p : Piece) → sign p ≡ wanted → pieces ≡ p ∷ rest → SignAt wanted pieces rest
+sign_is_at wanted pieces rest p c e = record { piece = p; whole = e; signed = c }
 
 pub binary_same : (x a y b : Expr) (op : Operator) (at : Place) (left right : Tree) → x ≡ a → tree_of a ≡ left → y ≡ b → tree_of b ≡ right
     → tree_of (Binary op at x y) ≡ binary op at left right

@@ -1,7 +1,10 @@
 -- What the reader's functions say of the front of pieces.
-use Rattle.std.specs.Prelude.{◌≡◌, ℕ, ◌<◌, List, [], ◌∷◌, Some}
+use Rattle.std.specs.Prelude.{◌≡◌, ℕ, zero, suc, ◌<◌, Bool, true, false, List, [], ◌∷◌, Option, None, Some, option_map}
 use Rattle.cx_lex.specs.declared.token.Piece.{Piece}
 use Rattle.cx_first.specs.declared.tree.Operator.{Operator}
+use Rattle.cx_first.specs.declared.signs.Sign.{Sign}
+use Rattle.cx_first.specs.declared.statements.Awaits.{Awaits}
+use Rattle.cx_first.specs.declared.statements.Awaits.TheVariants as awaits
 use Rattle.cx_first.specs.declared.signs.Sign.TheVariants as sign_is
 use Rattle.cx_first.specs.Signs.{sign}
 use Rattle.cx_first.specs.Grammar.{operator_of, level_of}
@@ -20,11 +23,36 @@ pub record OperatorAt (level : ℕ) (pieces : List Piece) (op : Operator) (p : P
 abbrev pub NoOperator : ℕ → List Piece → Type 0
 NoOperator level pieces = (op : Operator) (p : Piece) (rest : List Piece) → OperatorAt level pieces op p rest → ⊥
 
--- at the front stands a closing bracket
-pub record ClosingAt (pieces rest : List Piece) : Type 0 where
-  pub close : Piece
-  pub whole : pieces ≡ close ∷ rest
-  pub closes : sign close ≡ sign_is.Close
+-- at the front stands a piece of this sign
+pub record SignAt (wanted : Sign) (pieces rest : List Piece) : Type 0 where
+  pub piece : Piece
+  pub whole : pieces ≡ piece ∷ rest
+  pub signed : sign piece ≡ wanted
 
-abbrev pub NoClosing : List Piece → Type 0
-NoClosing pieces = (rest : List Piece) → ClosingAt pieces rest → ⊥
+abbrev pub NoSign : Sign → List Piece → Type 0
+NoSign wanted pieces = (rest : List Piece) → SignAt wanted pieces rest → ⊥
+
+-- the marks that stand behind expressions, and never in them
+unfoldable pub ends_expression : Sign → Bool
+ends_expression sign_is.Comma = true
+ends_expression sign_is.Semicolon = true
+ends_expression other = false
+
+-- how many pieces stand before the first such mark, at most so many
+abbrev pub one_more : Bool → ℕ → (ℕ → Option ℕ) → Option ℕ
+one_more true left more = Some 0
+one_more false zero more = None
+one_more false (suc left) more = option_map suc (more left)
+
+unfoldable pub ends_after : ℕ → List Piece → Option ℕ
+ends_after left [] = None
+ends_after left (p ∷ rest) = one_more (ends_expression (sign p)) left (λ fewer. ends_after fewer rest)
+
+-- the body's last piece, and nothing behind it
+abbrev pub is_end : Sign → Bool
+is_end sign_is.End = true
+is_end other = false
+
+unfoldable pub is_closed : Awaits → List Piece → Bool
+is_closed awaits.Statement (p ∷ []) = is_end (sign p)
+is_closed here pieces = false

@@ -62,30 +62,30 @@ pub record IsNew (function : List ℕ) (names : Names) (name : List ℕ) : Type 
   pub fresh : index_of names name ≡ None
   pub other : name ≢ function
 
--- a declarator and the mark behind it: its own initialiser already sees its name (C11 6.2.1p7)
-pub data Declarator (limit : ℕ) (function : List ℕ) : Names → List Piece → Form → Sign → List Piece → Type 0 where
+-- a declarator and the mark behind it, with the names before and after: its own initialiser sees its name (C11 6.2.1p7)
+pub data Declarator (limit : ℕ) (function : List ℕ) : Names → List Piece → Form → Sign → Names → List Piece → Type 0 where
   bare : {names : Names} {p q : Piece} {mark : Sign} {rest : List Piece} → sign p ≡ sign_is.Name
       → IsNew function names p.token.text → sign q ≡ mark
-      → Declarator limit function names (p ∷ q ∷ rest) (declares (length names) p.token.place None) mark rest
+      → Declarator limit function names (p ∷ q ∷ rest) (declares (length names) p.token.place None) mark (names ++ p.token.text ∷ []) rest
   initialised : {names : Names} {p q : Piece} {mark : Sign} {t : Tree} {ts rest : List Piece} → sign p ≡ sign_is.Name
       → IsNew function names p.token.text → sign q ≡ sign_is.Equals
       → Expression limit (names ++ p.token.text ∷ []) ts t mark rest
-      → Declarator limit function names (p ∷ q ∷ ts) (declares (length names) p.token.place (Some t)) mark rest
+      → Declarator limit function names (p ∷ q ∷ ts) (declares (length names) p.token.place (Some t)) mark (names ++ p.token.text ∷ []) rest
 
--- what a mark behind a declarator lets follow (C11 6.7p1)
-unfoldable pub behind : Sign → Option Awaits
-behind sign_is.Comma = Some awaits.Declarator
-behind sign_is.Semicolon = Some awaits.Statement
-behind other = None
+-- what may follow behind the mark at the end of a declarator (C11 6.7p1)
+unfoldable pub follows : Sign → Option Awaits
+follows sign_is.Comma = Some awaits.Declarator
+follows sign_is.Semicolon = Some awaits.Statement
+follows other = None
 
 -- one statement or declarator: what is awaited, the names, the pieces, the form, and what, with which names, follows
 pub data Reading (limit : ℕ) (function : List ℕ) : Awaits → Names → List Piece → Form → Awaits → Names → List Piece → Type 0 where
-  declaration : {names : Names} {p q : Piece} {ts rest : List Piece} {form : Form} {mark : Sign} {next : Awaits}
-      → sign p ≡ sign_is.Int → Declarator limit function names (q ∷ ts) form mark rest → behind mark ≡ Some next
-      → Reading limit function awaits.Statement names (p ∷ q ∷ ts) form next (names ++ q.token.text ∷ []) rest
-  declarator : {names : Names} {q : Piece} {ts rest : List Piece} {form : Form} {mark : Sign} {next : Awaits}
-      → Declarator limit function names (q ∷ ts) form mark rest → behind mark ≡ Some next
-      → Reading limit function awaits.Declarator names (q ∷ ts) form next (names ++ q.token.text ∷ []) rest
+  declaration : {names then : Names} {p : Piece} {ts rest : List Piece} {form : Form} {mark : Sign} {next : Awaits}
+      → sign p ≡ sign_is.Int → Declarator limit function names ts form mark then rest → follows mark ≡ Some next
+      → Reading limit function awaits.Statement names (p ∷ ts) form next then rest
+  declarator : {names then : Names} {ts rest : List Piece} {form : Form} {mark : Sign} {next : Awaits}
+      → Declarator limit function names ts form mark then rest → follows mark ≡ Some next
+      → Reading limit function awaits.Declarator names ts form next then rest
   assignment : {names : Names} {p q : Piece} {i : ℕ} {t : Tree} {ts rest : List Piece} → sign p ≡ sign_is.Name
       → index_of names p.token.text ≡ Some i → sign q ≡ sign_is.Equals → Expression limit names ts t sign_is.Semicolon rest
       → Reading limit function awaits.Statement names (p ∷ q ∷ ts) (assigns i p.token.place t) awaits.Statement names rest

@@ -5,10 +5,10 @@ ghost use Rattle.cx_lex.specs.declared.token.Piece.{Piece};
 ghost use Rattle.cx_first.specs.Tree as tree;
 ghost use Rattle.cx_first.specs.Grammar.{Reads, Chains, operator_of, level_of};
 ghost use Rattle.cx_first.specs.Signs.{sign};
-ghost use Rattle.cx_first.specs.Descent.{Stops, OperatorAt, NoOperator, ClosingAt, NoClosing};
+ghost use Rattle.cx_first.specs.Descent.{Stops, OperatorAt, NoOperator, SignAt, NoSign};
 
 use crate::names::Names;
-use crate::signs::{first, sign_of, Sign};
+use crate::signs::{behind_sign, first, sign_of, Sign};
 use crate::tree::{Expr, Operator};
 use cx_base::NoMemory;
 use cx_lex::Piece;
@@ -124,7 +124,7 @@ fn bracketed<'a>(alloc: Global, names: &Names, piece: &'a Piece, pieces: &'a [Pi
 {
     match chain(alloc, names, 2, pieces)? {
         None => Ok(None),
-        Some((inner, behind)) => match closing(behind) {
+        Some((inner, behind)) => match behind_sign(Sign::Close, behind) {
             None => Ok(None),
             Some(rest) => {
                 let inner = Boxed::new(alloc, inner)?;
@@ -134,21 +134,10 @@ fn bracketed<'a>(alloc: Global, names: &Names, piece: &'a Piece, pieces: &'a [Pi
     }
 }
 
-/// What stands behind a closing bracket.
-fn closing(pieces: &[Piece]) -> Option<&[Piece]>
-    ensures { MatchOption result (NoClosing pieces.now) (λ rest. ClosingAt pieces.now rest.now) }
-{
-    let (piece, rest) = first(pieces)?;
-    match sign_of(piece) {
-        Sign::Close => Some(rest),
-        _ => None,
-    }
-}
-
 /// An expression of the operators up to a level.
 #[cycle(expression)]
 #[tactic(auto, using(crate::proofs::TreeLaws::trees))]
-fn chain<'a>(alloc: Global, names: &Names, level: u8, pieces: &'a [Piece]) -> Result<Option<(Expr, &'a [Piece])>, NoMemory>
+pub(crate) fn chain<'a>(alloc: Global, names: &Names, level: u8, pieces: &'a [Piece]) -> Result<Option<(Expr, &'a [Piece])>, NoMemory>
     requires few { length names.now ≤ 4294967296 }
     requires level { level ≤ 2 }
     ensures found { IfOk result (λ f. IfSome f (λ x. Reads names.now level pieces.now (tree.tree_of x.0) x.1.now)) }

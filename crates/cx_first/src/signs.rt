@@ -1,6 +1,7 @@
 //! What a piece is to the grammar of a first text.
 ghost use Rattle.std.specs.Prelude.{◌≡◌, ◌≤◌, [], ◌∷◌, length, IfSome, MatchOption};
 ghost use Rattle.cx_first.specs.Signs as meaning;
+ghost use Rattle.cx_first.specs.Descent.{SignAt, NoSign};
 
 use crate::keywords::{equals, is_keyword};
 use cx_lex::{Kind, Piece};
@@ -167,5 +168,17 @@ pub(crate) fn first<'a>(pieces: &'a [Piece]) -> Option<(&'a Piece, &'a [Piece])>
     match pieces {
         [] => None,
         [piece, rest @ ..] => Some((piece, rest)),
+    }
+}
+
+/// What stands behind a piece of this sign.
+pub(crate) fn behind_sign<'a>(wanted: Sign, pieces: &'a [Piece]) -> Option<&'a [Piece]>
+    ensures { MatchOption result (NoSign wanted pieces.now) (λ rest. SignAt wanted pieces.now rest.now) }
+{
+    let (piece, rest) = first(pieces)?;
+    if sign_of(piece) == wanted {
+        Some(rest)
+    } else {
+        None
     }
 }
