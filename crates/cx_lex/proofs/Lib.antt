@@ -1,0 +1,6 @@
+pub mod CutLaws
+pub mod Digits
+pub mod FormLaws
+pub mod Going
+pub mod Joined
+pub mod Sound

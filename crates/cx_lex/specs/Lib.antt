@@ -1,0 +1,4 @@
+pub mod Characters
+pub mod Cut
+pub mod Forms
+pub mod Pieces

@@ -1,6 +1,14 @@
-//! Preprocessing tokens of C (ISO/IEC 9899:2011, 6.4), with the places where they stand.
+//! Preprocessing tokens of C (ISO/IEC 9899:2011, 6.4), with the places where they stand, and the
+//! lexer of a first language.
 #![tactic(auto)]
 
+pub use first_lexer::{lex_first, one_reading, pieces_are_the_text};
+pub use number::number_value;
+pub use spot::Spot;
 pub use token::{Kind, Piece, Token};
 
+mod bytes;
+mod first_lexer;
+mod number;
+mod spot;
 mod token;
