@@ -5,3 +5,4 @@ pub mod StepLaws
 pub mod SignLaws
 pub mod NameLaws
 pub mod DescentLaws
+pub mod ExpressionLaws

@@ -7,7 +7,8 @@ use Rattle.cx_first.specs.declared.statements.Awaits.{Awaits}
 use Rattle.cx_first.specs.declared.statements.Awaits.TheVariants as awaits
 use Rattle.cx_first.specs.declared.signs.Sign.TheVariants as sign_is
 use Rattle.cx_first.specs.Signs.{sign}
-use Rattle.cx_first.specs.Grammar.{operator_of, level_of}
+use Rattle.cx_first.specs.Names.{Names}
+use Rattle.cx_first.specs.Grammar.{operator_of, level_of, IsNew}
 
 -- pieces with which no expression of operators up to a level goes on
 abbrev pub Stops : ℕ → List Piece → Type 0
@@ -56,3 +57,12 @@ is_end other = false
 unfoldable pub is_closed : Awaits → List Piece → Bool
 is_closed awaits.Statement (p ∷ []) = is_end (sign p)
 is_closed here pieces = false
+
+-- at the front stands a name that may be declared
+pub record NewNameAt (function : List ℕ) (names : Names) (pieces : List Piece) (p : Piece) (rest : List Piece) : Type 0 where
+  pub whole : pieces ≡ p ∷ rest
+  pub named : sign p ≡ sign_is.Name
+  pub fresh : IsNew function names p.token.text
+
+abbrev pub NoNewName : List ℕ → Names → List Piece → Type 0
+NoNewName function names pieces = (p : Piece) (rest : List Piece) → NewNameAt function names pieces p rest → ⊥

@@ -62,15 +62,18 @@ pub record IsNew (function : List ℕ) (names : Names) (name : List ℕ) : Type 
   pub fresh : index_of names name ≡ None
   pub other : name ≢ function
 
--- a declarator and the mark behind it, with the names before and after: its own initialiser sees its name (C11 6.2.1p7)
-pub data Declarator (limit : ℕ) (function : List ℕ) : Names → List Piece → Form → Sign → Names → List Piece → Type 0 where
-  bare : {names : Names} {p q : Piece} {mark : Sign} {rest : List Piece} → sign p ≡ sign_is.Name
-      → IsNew function names p.token.text → sign q ≡ mark
-      → Declarator limit function names (p ∷ q ∷ rest) (declares (length names) p.token.place None) mark (names ++ p.token.text ∷ []) rest
-  initialised : {names : Names} {p q : Piece} {mark : Sign} {t : Tree} {ts rest : List Piece} → sign p ≡ sign_is.Name
-      → IsNew function names p.token.text → sign q ≡ sign_is.Equals
-      → Expression limit (names ++ p.token.text ∷ []) ts t mark rest
-      → Declarator limit function names (p ∷ q ∷ ts) (declares (length names) p.token.place (Some t)) mark (names ++ p.token.text ∷ []) rest
+-- an initialiser, where there is one, and a mark behind it
+pub data Initialiser (limit : ℕ) (names : Names) : List Piece → Option Tree → Sign → List Piece → Type 0 where
+  without : {q : Piece} {mark : Sign} {rest : List Piece} → sign q ≡ mark → mark ≢ sign_is.Equals
+      → Initialiser limit names (q ∷ rest) None mark rest
+  initialised : {q : Piece} {mark : Sign} {t : Tree} {ts rest : List Piece} → sign q ≡ sign_is.Equals
+      → Expression limit names ts t mark rest → Initialiser limit names (q ∷ ts) (Some t) mark rest
+
+-- a declarator and the mark behind it: its own initialiser already sees its name (C11 6.2.1p7)
+pub data Declarator (limit : ℕ) (function : List ℕ) (names : Names) : List Piece → Form → Sign → Names → List Piece → Type 0 where
+  declares_a : {p : Piece} {mark : Sign} {value : Option Tree} {ts rest : List Piece} → sign p ≡ sign_is.Name
+      → IsNew function names p.token.text → Initialiser limit (names ++ p.token.text ∷ []) ts value mark rest
+      → Declarator limit function names (p ∷ ts) (declares (length names) p.token.place value) mark (names ++ p.token.text ∷ []) rest
 
 -- what may follow behind the mark at the end of a declarator (C11 6.7p1)
 unfoldable pub follows : Sign → Option Awaits

@@ -1,10 +1,12 @@
 -- What a piece is to the grammar of a first text (C11 6.4).
-use Rattle.std.specs.Prelude.{ℕ, ◌+◌, ◌-◌, ◌*◌, Bool, ◌&&◌, ◌==◌, nat_le, if◌then◌else◌, List, [], ◌∷◌, Option, Some, None, bytes_eq, codes}
+use Rattle.std.specs.Prelude.{ℕ, Bool, false, not, ◌&&◌, ◌==◌, nat_le, nat_lt, length, if◌then◌else◌, List, [], ◌∷◌, bytes_eq, codes}
 use Rattle.std.specs.Borrow.{Bor}
 use Rattle.std.specs.List.{list_all, list_any}
 use Rattle.cx_lex.specs.declared.token.Kind.{Kind}
 use Rattle.cx_lex.specs.declared.token.Kind.TheVariants as kind
 use Rattle.cx_lex.specs.declared.token.Piece.{Piece}
+use Rattle.cx_lex.specs.Characters.{is_digit}
+use Rattle.cx_lex.specs.Forms.{number_of, greatest}
 use Rattle.cx_first.specs.declared.signs.Sign.{Sign}
 use Rattle.cx_first.specs.declared.signs.Sign.TheVariants as sign_is
 
@@ -57,47 +59,19 @@ abbrev pub mark : List ℕ → Sign
 mark (byte ∷ []) = mark_of byte
 mark text = sign_is.Foreign
 
-abbrev pub is_digit : ℕ → Bool
-is_digit byte = nat_le 48 byte && nat_le byte 57
+-- whether a number is a decimal constant that is a value of type int: digits, the first of which is 0 only where it is
+-- alone (C11 6.4.4.1)
+unfoldable pub is_int_constant : List ℕ → Bool
+is_int_constant [] = false
+is_int_constant (byte ∷ bytes) =
+    list_all is_digit (byte ∷ bytes) && not (byte == 48 && nat_lt 0 (length bytes)) && nat_le (number_of (byte ∷ bytes)) greatest
 
--- the value of digits, behind a value
-abbrev pub value_behind : ℕ → List ℕ → ℕ
-value_behind value [] = value
-value_behind value (byte ∷ bytes) = value_behind (value * 10 + (byte - 48)) bytes
-
--- a digit more, and further digits, where the value stays within a bound
-abbrev pub with_digit : ℕ → ℕ → ℕ → Option ℕ
-with_digit most value byte =
-    if is_digit byte && nat_le (value * 10 + (byte - 48)) most then Some (value * 10 + (byte - 48)) else None
-
-abbrev pub digits_by : ℕ → Option ℕ → (ℕ → Option ℕ) → Option ℕ
-digits_by most None more = None
-digits_by most (Some value) more = more value
-
-unfoldable pub digits_from : ℕ → ℕ → List ℕ → Option ℕ
-digits_from most value [] = Some value
-digits_from most value (byte ∷ bytes) = digits_by most (with_digit most value byte) (λ next. digits_from most next bytes)
-
-abbrev pub digits_sign : Option ℕ → Sign
-digits_sign None = sign_is.Foreign
-digits_sign (Some value) = sign_is.Number value
-
-abbrev pub number_sign : Bool → ℕ → Sign
-number_sign is_int value = if is_int then sign_is.Number value else sign_is.Foreign
-
--- a decimal constant: digits, with a value of at most so much (C11 6.4.4.1)
-unfoldable pub number : ℕ → List ℕ → Sign
-number most [] = sign_is.Foreign
-number most (byte ∷ bytes) =
-    number_sign (list_all is_digit (byte ∷ bytes) && nat_le (value_behind 0 (byte ∷ bytes)) most) (value_behind 0 (byte ∷ bytes))
-
--- the greatest int (C11 5.2.4.2.1)
-abbrev pub greatest : ℕ
-greatest = 2147483647
+unfoldable pub number : List ℕ → Sign
+number text = if is_int_constant text then sign_is.Number (number_of text) else sign_is.Foreign
 
 abbrev pub sign_of : Kind → List ℕ → Sign
 sign_of kind.Name text = word text
-sign_of kind.Number text = number greatest text
+sign_of kind.Number text = number text
 sign_of kind.Punct text = mark text
 sign_of kind.Char text = sign_is.Foreign
 sign_of kind.String text = sign_is.Foreign

@@ -1,10 +1,10 @@
 //! What a piece is to the grammar of a first text.
-ghost use Rattle.std.specs.Prelude.{◌≡◌, ◌≤◌, [], ◌∷◌, length, IfSome, MatchOption};
+ghost use Rattle.std.specs.Prelude.{◌≡◌, [], ◌∷◌, MatchOption};
 ghost use Rattle.cx_first.specs.Signs as meaning;
 ghost use Rattle.cx_first.specs.Descent.{SignAt, NoSign};
 
 use crate::keywords::{equals, is_keyword};
-use cx_lex::{Kind, Piece};
+use cx_lex::{number_value, Kind, Piece};
 
 /// The sign of a piece: all that the grammar asks of it but its text and its place.
 #[derive(Clone, Copy, Debug, PartialEq, Eq)]
@@ -17,7 +17,7 @@ pub enum Sign {
     Return,
     /// An identifier that is no keyword (C11 6.4.2.1).
     Name,
-    /// A decimal number that is an int (C11 6.4.4.1), with its value.
+    /// A decimal constant of type int (C11 6.4.4.1), with its value.
     Number(u32),
     /// `(`
     Open,
@@ -44,9 +44,6 @@ pub enum Sign {
     /// No piece of a first text.
     Foreign,
 }
-
-/// The greatest int (C11 5.2.4.2.1).
-const GREATEST: u32 = 2_147_483_647;
 
 /// A word's sign.
 #[tactic(auto, unfolding(crate::specs::Signs::word))]
@@ -96,52 +93,12 @@ fn mark(text: &[u8]) -> Sign
     }
 }
 
-/// The value of a number with a digit more, where it is at most `most`.
-fn with_digit(most: u32, value: u32, byte: u8) -> Option<u32>
-    requires most { most ≤ 2147483647 }
-    requires value { value ≤ most }
-    ensures value { result ≡ meaning.with_digit most value byte }
-    ensures within { IfSome result (λ next. next ≤ most) }
+/// A number's sign.
+#[tactic(auto, using(crate::proofs::SignLaws::number_is, crate::proofs::SignLaws::number_none))]
+fn number(text: &[u8]) -> Sign
+    ensures { result ≡ meaning.number text.now }
 {
-    if !byte.is_ascii_digit() {
-        return None;
-    }
-    let value = u64::from(value) * 10 + u64::from(byte - b'0');
-    if value <= u64::from(most) {
-        Some(value as u32)
-    } else {
-        None
-    }
-}
-
-/// The value of the digits of a number, where it is at most `most`.
-#[tactic(auto, using(crate::proofs::SignLaws::digits_more, crate::proofs::SignLaws::digits_end))]
-fn digits(most: u32, text: &[u8]) -> Option<u32>
-    requires { most ≤ 2147483647 }
-    ensures { result ≡ meaning.digits_from most 0 text.now }
-{
-    let mut value = 0;
-    for byte in text {
-        match with_digit(most, value, *byte) {
-            Some(next) => {
-                value = next;
-                continue;
-            }
-            None => return None,
-        }
-    }
-    Some(value)
-}
-
-/// A number's sign, where its value is at most `most`.
-fn number(most: u32, text: &[u8]) -> Sign
-    requires { most ≤ 2147483647 }
-    ensures { result ≡ meaning.number most text.now }
-{
-    if text.is_empty() {
-        return Sign::Foreign;
-    }
-    match digits(most, text) {
+    match number_value(text) {
         Some(value) => Sign::Number(value),
         None => Sign::Foreign,
     }
@@ -155,7 +112,7 @@ pub(crate) fn sign_of(piece: &Piece) -> Sign
     let text = piece.token.text.as_slice();
     match piece.token.kind {
         Kind::Name => word(text),
-        Kind::Number => number(GREATEST, text),
+        Kind::Number => number(text),
         Kind::Punct => mark(text),
         Kind::Char | Kind::String | Kind::Unclosed | Kind::Header | Kind::Other => Sign::Foreign,
     }
