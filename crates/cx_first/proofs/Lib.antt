@@ -6,3 +6,7 @@ pub mod SignLaws
 pub mod NameLaws
 pub mod DescentLaws
 pub mod ExpressionLaws
+pub mod StatementLaws
+pub mod ReaderLaws
+pub mod SizeLaws
+pub mod SameLaws

@@ -66,3 +66,28 @@ pub record NewNameAt (function : List ℕ) (names : Names) (pieces : List Piece)
 
 abbrev pub NoNewName : List ℕ → Names → List Piece → Type 0
 NoNewName function names pieces = (p : Piece) (rest : List Piece) → NewNameAt function names pieces p rest → ⊥
+
+-- at the front stands ( void ) {
+pub record OpeningAt (pieces rest : List Piece) : Type 0 where
+  pub behind_open : List Piece
+  pub behind_void : List Piece
+  pub behind_close : List Piece
+  pub opening : SignAt sign_is.Open pieces behind_open
+  pub void : SignAt sign_is.Void behind_open behind_void
+  pub closing : SignAt sign_is.Close behind_void behind_close
+  pub beginning : SignAt sign_is.Begin behind_close rest
+
+abbrev pub NoOpening : List Piece → Type 0
+NoOpening pieces = (rest : List Piece) → OpeningAt pieces rest → ⊥
+
+-- the head of a function, its name and the pieces behind its first brace
+pub record HeaderAt (pieces : List Piece) (name : Piece) (rest : List Piece) : Type 0 where
+  pub behind_int : List Piece
+  pub behind_name : List Piece
+  pub int : SignAt sign_is.Int pieces behind_int
+  pub named : behind_int ≡ name ∷ behind_name
+  pub signed : sign name ≡ sign_is.Name
+  pub opening : OpeningAt behind_name rest
+
+abbrev pub NoHeader : List Piece → Type 0
+NoHeader pieces = (name : Piece) (rest : List Piece) → HeaderAt pieces name rest → ⊥

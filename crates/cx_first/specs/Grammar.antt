@@ -81,27 +81,31 @@ follows sign_is.Comma = Some awaits.Declarator
 follows sign_is.Semicolon = Some awaits.Statement
 follows other = None
 
--- one statement or declarator: what is awaited, the names, the pieces, the form, and what, with which names, follows
-pub data Reading (limit : ℕ) (function : List ℕ) : Awaits → Names → List Piece → Form → Awaits → Names → List Piece → Type 0 where
-  declaration : {names then : Names} {p : Piece} {ts rest : List Piece} {form : Form} {mark : Sign} {next : Awaits}
-      → sign p ≡ sign_is.Int → Declarator limit function names ts form mark then rest → follows mark ≡ Some next
-      → Reading limit function awaits.Statement names (p ∷ ts) form next then rest
-  declarator : {names then : Names} {ts rest : List Piece} {form : Form} {mark : Sign} {next : Awaits}
-      → Declarator limit function names ts form mark then rest → follows mark ≡ Some next
-      → Reading limit function awaits.Declarator names ts form next then rest
-  assignment : {names : Names} {p q : Piece} {i : ℕ} {t : Tree} {ts rest : List Piece} → sign p ≡ sign_is.Name
+-- an assignment or a return (C11 6.5.16, 6.8.3, 6.8.6.4)
+pub data Simple (limit : ℕ) (names : Names) : List Piece → Form → List Piece → Type 0 where
+  assignment : {p q : Piece} {i : ℕ} {t : Tree} {ts rest : List Piece} → sign p ≡ sign_is.Name
       → index_of names p.token.text ≡ Some i → sign q ≡ sign_is.Equals → Expression limit names ts t sign_is.Semicolon rest
-      → Reading limit function awaits.Statement names (p ∷ q ∷ ts) (assigns i p.token.place t) awaits.Statement names rest
-  a_return : {names : Names} {p : Piece} {t : Tree} {ts rest : List Piece} → sign p ≡ sign_is.Return
-      → Expression limit names ts t sign_is.Semicolon rest
-      → Reading limit function awaits.Statement names (p ∷ ts) (returns p.token.place t) awaits.Statement names rest
+      → Simple limit names (p ∷ q ∷ ts) (assigns i p.token.place t) rest
+  a_return : {p : Piece} {t : Tree} {ts rest : List Piece} → sign p ≡ sign_is.Return
+      → Expression limit names ts t sign_is.Semicolon rest → Simple limit names (p ∷ ts) (returns p.token.place t) rest
+
+-- one statement or declarator: what is awaited, the names, the pieces, the form, and what, with which names, follows
+pub data Reading (limit : ℕ) (function : List ℕ) (names : Names) : Awaits → List Piece → Form → Awaits → Names → List Piece → Type 0 where
+  a_declaration : {then : Names} {p : Piece} {ts rest : List Piece} {form : Form} {mark : Sign} {next : Awaits}
+      → sign p ≡ sign_is.Int → Declarator limit function names ts form mark then rest → follows mark ≡ Some next
+      → Reading limit function names awaits.Statement (p ∷ ts) form next then rest
+  a_declarator : {then : Names} {ts rest : List Piece} {form : Form} {mark : Sign} {next : Awaits}
+      → Declarator limit function names ts form mark then rest → follows mark ≡ Some next
+      → Reading limit function names awaits.Declarator ts form next then rest
+  a_statement : {ts rest : List Piece} {form : Form} → Simple limit names ts form rest
+      → Reading limit function names awaits.Statement ts form awaits.Statement names rest
 
 -- the rest of a function's body (C11 6.8.2), up to its last piece
 pub data Body (limit : ℕ) (function : List ℕ) : Awaits → Names → List Piece → List Form → Names → Type 0 where
   closed : {names : Names} {p : Piece} → sign p ≡ sign_is.End
       → Body limit function awaits.Statement names (p ∷ []) [] names
   more : {here next : Awaits} {names then all : Names} {ts rest : List Piece} {form : Form} {forms : List Form}
-      → Reading limit function here names ts form next then rest → Body limit function next then rest forms all
+      → Reading limit function names here ts form next then rest → Body limit function next then rest forms all
       → Body limit function here names ts (form ∷ forms) all
 
 -- the pieces of a text: none, or one function int Name ( void ) { .. } (C11 6.9.1)

@@ -3,7 +3,7 @@ ghost use Rattle.std.specs.Prelude.{◌≡◌, ◌≤◌, ◌<◌, ◌+◌, ℕ,
 ghost use Rattle.cx_lex.specs.declared.token.Piece.{Piece};
 ghost use Rattle.cx_first.specs.Tree.{Tree, Form, tree_of, form_of};
 ghost use Rattle.cx_first.specs.Names.{Names as NamesSoFar, index_of};
-ghost use Rattle.cx_first.specs.Grammar.{Expression, Initialiser, Declarator, Reading, IsNew, follows};
+ghost use Rattle.cx_first.specs.Grammar.{Expression, Initialiser, Declarator, Simple, Reading, IsNew, follows};
 ghost use Rattle.cx_first.specs.Signs.{sign};
 ghost use Rattle.cx_first.specs.Descent.{ends_expression, ends_after, NewNameAt, NoNewName};
 
@@ -147,5 +147,193 @@ fn initialiser<'a>(
             Some((value, mark, rest)) => Ok(Some((Some(value), mark, rest))),
         },
         mark => Ok(Some((None, mark, rest))),
+    }
+}
+
+/// One declarator: its name counts as declared from its own initialiser on.
+fn declarator<'a>(
+    alloc: Global,
+    function: &[u8],
+    limit: usize,
+    names: &mut Names,
+    pieces: &'a [Piece],
+) -> Result<Option<(Statement, Sign, &'a [Piece])>, NoMemory>
+    requires { length names.old < 4294967296 }
+    ensures found { IfOk result (λ f. IfSome f (λ x. Declarator limit function.now names.old pieces.now (form_of x.0) x.1 names.new x.2.now)) }
+    ensures only { (form : Form) (mark : Sign) (then : NamesSoFar) (rest : Items Piece) → Declarator limit function.now names.old pieces.now form mark then rest → IsTrue (ends_expression mark) → IfOk result (λ f. IsSomeAnd f (λ x. (form_of x.0 ≡ form) × (x.1 ≡ mark) × (names.new ≡ then) × (x.2.now ≡ rest))) }
+    ensures shorter { IfOk result (λ f. IfSome f (λ x. length x.2.now < length pieces.now)) }
+    ensures grown { IfOk result (λ _. length names.new ≤ length names.old + 1) }
+{
+    let Some((piece, rest)) = new_name(function, names, pieces) else {
+        return Ok(None);
+    };
+    let variable = names.len() as u32;
+    names.declare(alloc, piece.token.text.as_slice())?;
+    match initialiser(alloc, names, limit, rest)? {
+        None => Ok(None),
+        Some((value, mark, rest)) => {
+            let at = piece.token.place;
+            Ok(Some((
+                Statement::Declare {
+                    variable,
+                    at,
+                    value,
+                },
+                mark,
+                rest,
+            )))
+        }
+    }
+}
+
+/// One declarator, with what may follow it.
+fn declaration<'a>(
+    alloc: Global,
+    function: &[u8],
+    limit: usize,
+    names: &mut Names,
+    pieces: &'a [Piece],
+) -> Result<Option<(Statement, Awaits, &'a [Piece])>, NoMemory>
+    requires { length names.old < 4294967296 }
+    ensures found { IfOk result (λ f. IfSome f (λ x. Reading limit function.now names.old Awaits.Declarator pieces.now (form_of x.0) x.1 names.new x.2.now)) }
+    ensures only { (form : Form) (next : Awaits) (then : NamesSoFar) (rest : Items Piece) → Reading limit function.now names.old Awaits.Declarator pieces.now form next then rest → IfOk result (λ f. IsSomeAnd f (λ x. (form_of x.0 ≡ form) × (x.1 ≡ next) × (names.new ≡ then) × (x.2.now ≡ rest))) }
+    ensures shorter { IfOk result (λ f. IfSome f (λ x. length x.2.now < length pieces.now)) }
+    ensures grown { IfOk result (λ _. length names.new ≤ length names.old + 1) }
+{
+    match declarator(alloc, function, limit, names, pieces)? {
+        None => Ok(None),
+        Some((statement, mark, rest)) => match follows(mark) {
+            None => Ok(None),
+            Some(next) => Ok(Some((statement, next, rest))),
+        },
+    }
+}
+
+/// An expression with a `;` behind it.
+fn closed_expression<'a>(
+    alloc: Global,
+    limit: usize,
+    names: &Names,
+    pieces: &'a [Piece],
+) -> Result<Option<(Expr, &'a [Piece])>, NoMemory>
+    requires { length names.now ≤ 4294967296 }
+    ensures found { IfOk result (λ f. IfSome f (λ x. Expression limit names.now pieces.now (tree_of x.0) Sign.Semicolon x.1.now)) }
+    ensures only { (t : Tree) (rest : Items Piece) → Expression limit names.now pieces.now t Sign.Semicolon rest → IfOk result (λ f. IsSomeAnd f (λ x. (tree_of x.0 ≡ t) × (x.1.now ≡ rest))) }
+    ensures shorter { IfOk result (λ f. IfSome f (λ x. length x.1.now < length pieces.now)) }
+{
+    match expression(alloc, names, limit, pieces)? {
+        None => Ok(None),
+        Some((value, mark, rest)) => match mark {
+            Sign::Semicolon => Ok(Some((value, rest))),
+            _ => Ok(None),
+        },
+    }
+}
+
+/// An assignment, behind its name.
+fn assignment<'a>(
+    alloc: Global,
+    limit: usize,
+    names: &Names,
+    piece: &Piece,
+    pieces: &'a [Piece],
+) -> Result<Option<(Statement, &'a [Piece])>, NoMemory>
+    requires few { length names.now ≤ 4294967296 }
+    requires name { sign piece.now ≡ Sign.Name }
+    ensures found { IfOk result (λ f. IfSome f (λ x. Simple limit names.now (piece.now ∷ pieces.now) (form_of x.0) x.1.now)) }
+    ensures only { (form : Form) (rest : Items Piece) → Simple limit names.now (piece.now ∷ pieces.now) form rest → IfOk result (λ f. IsSomeAnd f (λ x. (form_of x.0 ≡ form) × (x.1.now ≡ rest))) }
+    ensures shorter { IfOk result (λ f. IfSome f (λ x. length x.1.now < length pieces.now)) }
+{
+    let Some(variable) = names.find(piece.token.text.as_slice()) else {
+        return Ok(None);
+    };
+    let Some(rest) = behind_sign(Sign::Equals, pieces) else {
+        return Ok(None);
+    };
+    match closed_expression(alloc, limit, names, rest)? {
+        None => Ok(None),
+        Some((value, rest)) => {
+            let at = piece.token.place;
+            Ok(Some((
+                Statement::Assign {
+                    variable,
+                    at,
+                    value,
+                },
+                rest,
+            )))
+        }
+    }
+}
+
+/// What a `return` gives, behind its word.
+fn returned<'a>(
+    alloc: Global,
+    limit: usize,
+    names: &Names,
+    piece: &Piece,
+    pieces: &'a [Piece],
+) -> Result<Option<(Statement, &'a [Piece])>, NoMemory>
+    requires few { length names.now ≤ 4294967296 }
+    requires word { sign piece.now ≡ Sign.Return }
+    ensures found { IfOk result (λ f. IfSome f (λ x. Simple limit names.now (piece.now ∷ pieces.now) (form_of x.0) x.1.now)) }
+    ensures only { (form : Form) (rest : Items Piece) → Simple limit names.now (piece.now ∷ pieces.now) form rest → IfOk result (λ f. IsSomeAnd f (λ x. (form_of x.0 ≡ form) × (x.1.now ≡ rest))) }
+    ensures shorter { IfOk result (λ f. IfSome f (λ x. length x.1.now < length pieces.now)) }
+{
+    match closed_expression(alloc, limit, names, pieces)? {
+        None => Ok(None),
+        Some((value, rest)) => {
+            let at = piece.token.place;
+            Ok(Some((Statement::Return { at, value }, rest)))
+        }
+    }
+}
+
+/// An assignment or a `return`.
+fn simple<'a>(
+    alloc: Global,
+    limit: usize,
+    names: &Names,
+    pieces: &'a [Piece],
+) -> Result<Option<(Statement, &'a [Piece])>, NoMemory>
+    requires { length names.now ≤ 4294967296 }
+    ensures found { IfOk result (λ f. IfSome f (λ x. Simple limit names.now pieces.now (form_of x.0) x.1.now)) }
+    ensures only { (form : Form) (rest : Items Piece) → Simple limit names.now pieces.now form rest → IfOk result (λ f. IsSomeAnd f (λ x. (form_of x.0 ≡ form) × (x.1.now ≡ rest))) }
+    ensures shorter { IfOk result (λ f. IfSome f (λ x. length x.1.now < length pieces.now)) }
+{
+    let Some((piece, rest)) = first(pieces) else {
+        return Ok(None);
+    };
+    match sign_of(piece) {
+        Sign::Name => assignment(alloc, limit, names, piece, rest),
+        Sign::Return => returned(alloc, limit, names, piece, rest),
+        _ => Ok(None),
+    }
+}
+
+/// One statement or declarator, and what is awaited behind it.
+pub(crate) fn statement<'a>(
+    alloc: Global,
+    function: &[u8],
+    limit: usize,
+    names: &mut Names,
+    awaits: Awaits,
+    pieces: &'a [Piece],
+) -> Result<Option<(Statement, Awaits, &'a [Piece])>, NoMemory>
+    requires { length names.old < 4294967296 }
+    ensures found { IfOk result (λ f. IfSome f (λ x. Reading limit function.now names.old awaits pieces.now (form_of x.0) x.1 names.new x.2.now)) }
+    ensures only { (form : Form) (next : Awaits) (then : NamesSoFar) (rest : Items Piece) → Reading limit function.now names.old awaits pieces.now form next then rest → IfOk result (λ f. IsSomeAnd f (λ x. (form_of x.0 ≡ form) × (x.1 ≡ next) × (names.new ≡ then) × (x.2.now ≡ rest))) }
+    ensures shorter { IfOk result (λ f. IfSome f (λ x. length x.2.now < length pieces.now)) }
+    ensures grown { IfOk result (λ _. length names.new ≤ length names.old + 1) }
+{
+    match awaits {
+        Awaits::Declarator => declaration(alloc, function, limit, names, pieces),
+        Awaits::Statement => match behind_sign(Sign::Int, pieces) {
+            Some(rest) => declaration(alloc, function, limit, names, rest),
+            None => match simple(alloc, limit, names, pieces)? {
+                None => Ok(None),
+                Some((statement, rest)) => Ok(Some((statement, Awaits::Statement, rest))),
+            },
+        },
     }
 }
