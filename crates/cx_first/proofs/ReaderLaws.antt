@@ -52,11 +52,11 @@ end_reads e (a_declaration f d g) = absurd cc
 end_reads e (a_statement (assignment f g h x)) = absurd cc
 end_reads e (a_statement (a_return f x)) = absurd cc
 
-closed_is : (p : Piece) → sign p ≡ sign_is.End → is_closed awaits.Statement (p ∷ []) ≡ true
+pub closed_is : (p : Piece) → sign p ≡ sign_is.End → is_closed awaits.Statement (p ∷ []) ≡ true
 unfolding is_closed
 closed_is p e = ap is_end e
 
-closed_parts : {limit : ℕ} {function : List ℕ} {names all : Names} {p : Piece} {forms : List Form} → sign p ≡ sign_is.End
+pub closed_parts : {limit : ℕ} {function : List ℕ} {names all : Names} {p : Piece} {forms : List Form} → sign p ≡ sign_is.End
     → Body limit function awaits.Statement names (p ∷ []) forms all → (forms ≡ []) × (all ≡ names)
 closed_parts e (closed f) = (refl, refl)
 closed_parts e (more r b) = absurd (end_reads e r)

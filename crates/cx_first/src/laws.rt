@@ -1,8 +1,16 @@
-//! Laws of the runs of a first text, each by the contract of a function that does nothing.
-ghost use Rattle.std.specs.Prelude.{ℕ};
+//! Laws of first texts and their runs, each by the contract of a function that does nothing.
+ghost use Rattle.std.specs.Prelude.{◌≡◌, ℕ, List};
+ghost use Rattle.cx_lex.specs.declared.token.Piece.{Piece};
 ghost use Rattle.cx_first.specs.declared.evaluation.Undefined.{Undefined};
 ghost use Rattle.cx_first.specs.Tree.{Source};
+ghost use Rattle.cx_first.specs.Grammar.{IsFirstText};
 ghost use Rattle.cx_first.specs.Runs as meaning;
+
+/// At most one tree reads the pieces of a text.
+pub fn one_tree()
+    ensures { (pieces : List Piece) (source other : Source) → IsFirstText pieces source → IsFirstText pieces other → source ≡ other }
+{
+}
 
 /// Each text has exactly one longest run, and each run is a front of it.
 pub fn one_longest_run()

@@ -3,7 +3,7 @@
 #![tactic(auto)]
 
 pub use evaluation::{evaluate, End, Evaluated, Undefined};
-pub use laws::{one_longest_run, runs_go_on, stuck_is_never_passed};
+pub use laws::{one_longest_run, one_tree, runs_go_on, stuck_is_never_passed};
 pub use reader::read;
 pub use runs::{run, RunEnd};
 pub use signs::Sign;
