@@ -4,6 +4,7 @@
 
 pub use evaluation::{evaluate, End, Evaluated, Undefined};
 pub use laws::{one_longest_run, one_tree, runs_go_on, stuck_is_never_passed};
+pub use nodes::{Node, node_at, stuck_at_a_node};
 pub use reader::read;
 pub use runs::{run, RunEnd};
 pub use signs::Sign;
@@ -15,6 +16,7 @@ mod expressions;
 mod keywords;
 mod laws;
 mod names;
+mod nodes;
 mod reader;
 mod runs;
 mod signs;

@@ -52,7 +52,7 @@ fn push_first_word(line: &mut Bytes, words: &[Word]) -> Result<(), NoMemory>
 
 // A front and the first word.
 fn push_about(line: &mut Bytes, front: &[u8], words: &[Word]) -> Result<(), NoMemory>
-    ensures { OnOk result (line.new ≡ line.old ++ front.now ++ first_word words.now) }
+    ensures { OnOk result (line.new ≡ line.old ++ (front.now ++ first_word words.now)) }
 {
     line.push_all(front)?;
     push_first_word(line, words)?;
@@ -60,7 +60,7 @@ fn push_about(line: &mut Bytes, front: &[u8], words: &[Word]) -> Result<(), NoMe
 }
 
 fn push_overflow(line: &mut Bytes, words: &[Word]) -> Result<(), NoMemory>
-    ensures { OnOk result (line.new ≡ line.old ++ codes "Signed integer overflow for expression '" ++ first_word words.now ++ codes "'.") }
+    ensures { OnOk result (line.new ≡ line.old ++ (codes "Signed integer overflow for expression '" ++ first_word words.now ++ codes "'.")) }
 {
     push_about(line, b"Signed integer overflow for expression '", words)?;
     line.push_all(b"'.")?;
