@@ -6,3 +6,4 @@ pub mod SignLaws
 pub mod NameLaws
 pub mod DescentLaws
 pub mod ExpressionLaws
+pub mod NodeLaws

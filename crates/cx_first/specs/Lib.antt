@@ -7,3 +7,4 @@ pub mod Signs
 pub mod Names
 pub mod Grammar
 pub mod Descent
+pub mod Nodes

@@ -4,6 +4,7 @@
 
 pub use evaluation::{evaluate, End, Evaluated, Undefined};
 pub use laws::{one_longest_run, runs_go_on, stuck_is_never_passed};
+pub use nodes::{Node, node_at, stuck_at_a_node};
 pub use runs::{run, RunEnd};
 pub use signs::Sign;
 pub use statements::Awaits;
@@ -14,6 +15,7 @@ mod expressions;
 mod keywords;
 mod laws;
 mod names;
+mod nodes;
 mod runs;
 mod signs;
 mod statements;
