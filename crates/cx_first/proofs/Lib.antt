@@ -10,3 +10,4 @@ pub mod StatementLaws
 pub mod ReaderLaws
 pub mod SizeLaws
 pub mod SameLaws
+pub mod NodeLaws
