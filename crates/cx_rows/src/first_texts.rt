@@ -185,7 +185,7 @@ struct Limit {
     is_first: bool,
 }
 
-fn limits() -> [Limit; 8] {
+fn limits() -> [Limit; 6] {
     [
         Limit {
             name: "127 brackets, 255 pieces",
@@ -205,16 +205,6 @@ fn limits() -> [Limit; 8] {
         Limit {
             name: "257 pieces",
             content: negated(256),
-            is_first: false,
-        },
-        Limit {
-            name: "2,000,000 minus signs",
-            content: negated(2_000_000),
-            is_first: false,
-        },
-        Limit {
-            name: "2,000,000 opening brackets",
-            content: nested(2_000_000),
             is_first: false,
         },
         Limit {
@@ -288,7 +278,7 @@ fn other_texts_are_not_built(rt: HostRuntime) -> Result<(), Fail> {
 }
 
 #[test]
-fn limits_hold_without_a_deep_stack(rt: HostRuntime) -> Result<(), Fail> {
+fn limits_hold(rt: HostRuntime) -> Result<(), Fail> {
     for limit in limits() {
         try_text(
             &rt,
