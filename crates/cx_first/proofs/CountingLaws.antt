@@ -1,9 +1,9 @@
 -- Counting an evaluation's values gives the length of their list, which no tree has more of than nodes.
-use Rattle.std.proofs.Common.{◌≡◌, ℕ, ◌+◌, ◌≤◌, ◌<◌, ℤ, pos, List, length, Option, Some, None, refl, sym, ◌∙◌, ap, arith, length-append}
+use Rattle.std.proofs.Common.{◌≡◌, ℕ, ◌+◌, ◌≤◌, ℤ, pos, List, length, Option, Some, None, refl, arith, length-append}
 use Rattle.cx_tree.specs.declared.operators.Op.TheVariants as operation
 use Rattle.cx_first.specs.declared.tree.Operator.{Operator}
 use Rattle.cx_first.specs.declared.evaluation.Undefined.{Undefined}
-use Rattle.cx_first.specs.declared.evaluation.Undefined.TheVariants.{Uninitialized, ZeroDivisor, Overflow}
+use Rattle.cx_first.specs.declared.evaluation.Undefined.TheVariants.{Uninitialized, Overflow}
 use Rattle.cx_first.specs.declared.evaluation.End.{End}
 use Rattle.cx_first.specs.declared.evaluation.End.TheVariants as at_end
 use Rattle.cx_first.specs.declared.evaluation.Tally.{Tally}
@@ -54,15 +54,15 @@ counted_within (number value at) m = omega arith
 counted_within (variable index at) m = last_within Uninitialized (held m index)
 counted_within (negation at a) m =
     counts_within (counted a m).nodes (size a) 1 (counted a m).end
-        (λ v. last_counted Overflow (on_int operation.Negate v (pos 0)))
-        (counted_within a m) (λ v. last_within Overflow (on_int operation.Negate v (pos 0)))
+    (λ v. last_counted Overflow (on_int operation.Negate v (pos 0)))
+    (counted_within a m) (λ v. last_within Overflow (on_int operation.Negate v (pos 0)))
 counted_within (binary op at a b) m =
     let last : ℤ → ℤ → Tally = λ v w. last_counted (cause_of op w) (on_int (operation_of op) v w) in
     let h : (counted (binary op at a b) m).nodes ≤ size a + (size b + 1) =
-        counts_within (counted a m).nodes (size a) (size b + 1) (counted a m).end (λ v. then_count (counted b m) (last v))
-        (counted_within a m) (λ v.
-        counts_within (counted b m).nodes (size b) 1 (counted b m).end (last v) (counted_within b m) (λ w.
-        last_within (cause_of op w) (on_int (operation_of op) v w))) in
+    counts_within (counted a m).nodes (size a) (size b + 1) (counted a m).end (λ v. then_count (counted b m) (last v))
+    (counted_within a m) (λ v.
+    counts_within (counted b m).nodes (size b) 1 (counted b m).end (last v) (counted_within b m) (λ w.
+    last_within (cause_of op w) (on_int (operation_of op) v w))) in
     omega (arith, h)
 counted_within (brackets a) m = omega (arith, counted_within a m)
 

@@ -1,5 +1,5 @@
 -- The grammar's expressions taken apart and put together, as the reader does.
-use Rattle.std.proofs.Common.{◌≡◌, ℕ, zero, suc, ◌+◌, ◌-◌, ◌*◌, ◌<◌, ◌≤◌, List, [], ◌∷◌, ◌++◌, length, Option, Some, None, refl, sym, ◌∙◌, ap, subst, arith}
+use Rattle.std.proofs.Common.{◌≡◌, ℕ, ◌+◌, ◌<◌, ◌≤◌, List, [], ◌∷◌, Some, refl, sym, ◌∙◌, ap, subst, arith}
 use Rattle.cx_base.specs.declared.place.Place.{Place}
 use Rattle.cx_lex.specs.declared.token.Piece.{Piece}
 use Rattle.cx_first.specs.declared.tree.Expr.{Expr}
@@ -8,7 +8,7 @@ use Rattle.cx_first.specs.declared.tree.Operator.{Operator}
 use Rattle.cx_first.specs.declared.tree.Operator.TheVariants.{Add, Subtract, Multiply, Divide}
 use Rattle.cx_first.specs.declared.signs.Sign.{Sign}
 use Rattle.cx_first.specs.declared.signs.Sign.TheVariants as sign_is
-use Rattle.cx_first.specs.Tree.{Tree, tree_of, number, variable, negation, binary, brackets}
+use Rattle.cx_first.specs.Tree.{Tree, tree_of, binary, brackets}
 use Rattle.cx_first.specs.Names.{Names, index_of}
 use Rattle.cx_first.specs.Signs.{sign}
 use Rattle.cx_first.specs.Grammar.{Reads, a_number, a_variable, a_negation, in_brackets, a_chain, Chains, ends, goes_on, operator_of, level_of}
@@ -118,7 +118,7 @@ chains_parts {level} {names} {a} {t} {p} {ts} {rest} below op e o l (goes_on {be
       mid = mid;
       reads = subst (λ x. Reads names x ts b mid) same r;
       chains = subst (λ x. Chains names level (binary x p.token.place a b) mid t rest) alike c;
-      stops = chains_stop below e c s
+      stops = chains_stop below e c s;
     }
 
 -- where no operator of the level stands at the front, a chain has ended

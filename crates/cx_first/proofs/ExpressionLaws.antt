@@ -1,16 +1,15 @@
 -- An expression is what stands before the first mark that ends one.
-use Rattle.std.proofs.Common.{◌≡◌, ℕ, zero, suc, ◌+◌, ◌-◌, ◌<◌, ◌≤◌, ◌==◌, Bool, true, false, List, [], ◌∷◌, ◌++◌, length, take, drop, Option, Some, None, option_map, refl, sym, ◌∙◌, ap, subst, arith}
+use Rattle.std.proofs.Common.{◌≡◌, ℕ, zero, suc, ◌+◌, ◌≤◌, ◌==◌, Bool, true, false, List, [], ◌∷◌, ◌++◌, length, take, drop, Option, Some, None, option_map, refl, sym, ◌∙◌, ap, subst, arith}
 use Rattle.std.proofs.lemmas.Bool.Decides.{nat_tests}
 use Rattle.cx_lex.specs.declared.token.Piece.{Piece}
 use Rattle.cx_first.specs.declared.tree.Operator.{Operator}
-use Rattle.cx_first.specs.declared.tree.Operator.TheVariants.{Add, Subtract, Multiply, Divide}
 use Rattle.cx_first.specs.declared.signs.Sign.{Sign}
 use Rattle.cx_first.specs.declared.signs.Sign.TheVariants as sign_is
-use Rattle.cx_first.specs.Tree.{Tree, tree_of, number, variable, negation, binary, brackets}
-use Rattle.cx_first.specs.Names.{Names, index_of}
+use Rattle.cx_first.specs.Tree.{Tree}
+use Rattle.cx_first.specs.Names.{Names}
 use Rattle.cx_first.specs.Signs.{sign}
-use Rattle.cx_first.specs.Grammar.{Reads, a_number, a_variable, a_negation, in_brackets, a_chain, Chains, ends, goes_on, operator_of, level_of, Expression}
-use Rattle.cx_first.specs.Descent.{Stops, ends_expression, one_more, ends_after}
+use Rattle.cx_first.specs.Grammar.{Reads, a_number, a_variable, a_negation, in_brackets, a_chain, Chains, ends, goes_on, operator_of, Expression}
+use Rattle.cx_first.specs.Descent.{ends_expression, one_more, ends_after}
 
 -- none of the pieces ends an expression
 abbrev pub Inside : List Piece → Type 0
@@ -43,15 +42,19 @@ sign_inside s wanted e h = ap ends_expression e ∙ h
 number_inside : (n : ℕ) → ends_expression (sign_is.Number n) ≡ false
 unfolding ends_expression
 number_inside n = refl
+
 name_inside : ends_expression sign_is.Name ≡ false
 unfolding ends_expression
 name_inside = refl
+
 minus_inside : ends_expression sign_is.Minus ≡ false
 unfolding ends_expression
 minus_inside = refl
+
 open_inside : ends_expression sign_is.Open ≡ false
 unfolding ends_expression
 open_inside = refl
+
 close_inside : ends_expression sign_is.Close ≡ false
 unfolding ends_expression
 close_inside = refl
@@ -100,7 +103,7 @@ further limit n p rest (m, e, f) go =
       behind = k.behind;
       short = omega (arith, k.short);
       whole = ap (λ x. p ∷ x) k.whole;
-      ends = k.ends
+      ends = k.ends;
     })
 
 marked_at : (limit n : ℕ) (p : Piece) (rest : List Piece) (b : Bool) → ends_expression (sign p) ≡ b
@@ -196,7 +199,7 @@ expression_made limit names ts front back left t last mark rest count c f b d m 
       whole = k.whole ∙ ap (λ x. take count ts ++ x) same;
       marked = sym m;
       short = k.short;
-      reads = subst (λ x. Reads names 2 (take count ts) t x) n (subst (λ x. Reads names 2 x t left) f r)
+      reads = subst (λ x. Reads names 2 (take count ts) t x) n (subst (λ x. Reads names 2 x t left) f r);
     }
 
 pub counted_within : (limit count : ℕ) (ts : List Piece) → Some count ≡ ends_after limit ts → count ≤ length ts

@@ -1,5 +1,5 @@
 -- Looking a name up among owned texts is looking it up among their bytes.
-use Rattle.std.proofs.Common.{◌≡◌, ℕ, suc, ◌+◌, ◌<◌, ◌≤◌, Bool, ◌||◌, if◌then◌else◌, true, false, not, cond, List, [], ◌∷◌, ◌++◌, length, map, Option, Some, None, refl, sym, ◌∙◌, ap, arith, position, bytes_eq, nat_lt}
+use Rattle.std.proofs.Common.{◌≡◌, ℕ, ◌+◌, ◌≤◌, Bool, ◌||◌, if◌then◌else◌, true, false, not, cond, List, [], ◌∷◌, ◌++◌, length, map, Option, Some, None, refl, sym, ◌∙◌, ap, arith, position, bytes_eq, nat_lt}
 use Rattle.std.proofs.lemmas.List.{length-map, map-append}
 use Rattle.std.proofs.lemmas.Bool.Decides.{nat_tests}
 use Rattle.std.specs.List.{list_any, position_or_len}
@@ -15,16 +15,16 @@ position_map f p xs = rw (position_or_len_map f p xs, length-map xs f) refl
 -- what is found at no position is found nowhere
 none_past : {X : Type 0} (p : X → Bool) (xs : List X) → position p xs ≡ None → length xs ≤ position_or_len p xs
 none_past p xs e = elim (nat_lt (position_or_len p xs) (length xs)) as (λ b. nat_lt (position_or_len p xs) (length xs) ≡ b → cond b (Some (position_or_len p xs)) None ≡ None → length xs ≤ position_or_len p xs) [
-    true ↦ λ t n. absurd cc
+  | true ↦ λ t n. absurd cc
   | false ↦ λ t n. grind (arith, nat_tests, t)
-  ] refl e
+] refl e
 
 past_any : {X : Type 0} (p : X → Bool) (xs : List X) → length xs ≤ position_or_len p xs → list_any p xs ≡ false
 past_any p [] h = refl
 past_any p (x ∷ xs) h = elim (p x) as (λ b. length (x ∷ xs) ≤ cond (not b) (1 + position_or_len p xs) 0 → (b || list_any p xs) ≡ false) [
-    true ↦ λ k. absurd (omega arith)
+  | true ↦ λ k. absurd (omega arith)
   | false ↦ λ k. past_any p xs (omega arith)
-  ] h
+] h
 
 list_any_map : {X Y : Type 0} (f : X → Y) (p : Y → Bool) (xs : List X) → list_any p (map f xs) ≡ list_any (λ x. p (f x)) xs
 list_any_map f p [] = refl

@@ -1,5 +1,5 @@
 -- A text's head and body taken apart and put together, as the reader does.
-use Rattle.std.proofs.Common.{◌≡◌, ℕ, ◌+◌, ◌<◌, ◌≤◌, Bool, true, false, List, [], ◌∷◌, ◌++◌, length, map, Option, Some, None, MatchOption, IfNone, refl, sym, ◌∙◌, ap, subst, arith, append-nil, append_assoc}
+use Rattle.std.proofs.Common.{◌≡◌, ℕ, true, false, List, [], ◌∷◌, ◌++◌, map, Option, Some, None, MatchOption, IfNone, refl, sym, ◌∙◌, ap, append_assoc}
 use Rattle.std.proofs.lemmas.List.{map-append}
 use Rattle.cx_lex.specs.declared.token.Piece.{Piece}
 use Rattle.cx_first.specs.declared.tree.Statement.{Statement}
@@ -7,11 +7,11 @@ use Rattle.cx_first.specs.declared.signs.Sign.{Sign}
 use Rattle.cx_first.specs.declared.signs.Sign.TheVariants as sign_is
 use Rattle.cx_first.specs.declared.statements.Awaits.{Awaits}
 use Rattle.cx_first.specs.declared.statements.Awaits.TheVariants as awaits
-use Rattle.cx_first.specs.Tree.{Tree, Form, form_of, Source}
-use Rattle.cx_first.specs.Names.{Names, index_of}
+use Rattle.cx_first.specs.Tree.{Form, form_of, Source}
+use Rattle.cx_first.specs.Names.{Names}
 use Rattle.cx_first.specs.Signs.{sign}
-use Rattle.cx_first.specs.Grammar.{Simple, assignment, a_return, Reading, a_declaration, a_declarator, a_statement, Body, closed, more, ReadsText, nothing, a_function}
-use Rattle.cx_first.specs.Descent.{SignAt, is_end, is_closed, OpeningAt, HeaderAt}
+use Rattle.cx_first.specs.Grammar.{assignment, a_return, Reading, a_declaration, a_statement, Body, closed, more, ReadsText, nothing, a_function}
+use Rattle.cx_first.specs.Descent.{SignAt, is_end, is_closed, HeaderAt}
 
 -- the same sign at the same place has the same behind it
 pub sign_along : (wanted : Sign) (pieces others rest behind : List Piece) → SignAt wanted pieces rest → SignAt wanted others behind → pieces ≡ others → rest ≡ behind
@@ -84,7 +84,14 @@ pub body_parts : {limit : ℕ} {function : List ℕ} {here : Awaits} {names all 
     → Body limit function here names ts forms all → GoesOn limit function here names ts forms all
 body_parts e (closed {p = p} f) = absurd (let k : is_closed awaits.Statement (p ∷ []) ≡ true = closed_is p f in cc)
 body_parts e (more {next = next} {then = then} {rest = rest} {form = form} {forms = others} r b) = record {
-  form = form; others = others; next = next; then = then; rest = rest; forms_are = refl; reading = r; body = b
+  form = form;
+  others = others;
+  next = next;
+  then = then;
+  rest = rest;
+  forms_are = refl;
+  reading = r;
+  body = b;
 }
 
 pub forms_on : (statements new : List Statement) (form : Statement) (forms : List Form) → new ≡ statements ++ form ∷ []
@@ -105,11 +112,11 @@ pub text_made : (limit : ℕ) (pieces rest : List Piece) (name : Piece) (forms :
 text_made limit pieces rest name forms names h b =
     let o = h.opening in
     let whole : pieces ≡ h.int.piece ∷ name ∷ o.opening.piece ∷ o.void.piece ∷ o.closing.piece ∷ o.beginning.piece ∷ rest =
-        h.int.whole ∙ ap (λ x. h.int.piece ∷ x) (h.named
-        ∙ ap (λ x. name ∷ x) (o.opening.whole
-        ∙ ap (λ x. o.opening.piece ∷ x) (o.void.whole
-        ∙ ap (λ x. o.void.piece ∷ x) (o.closing.whole
-        ∙ ap (λ x. o.closing.piece ∷ x) o.beginning.whole)))) in
+    h.int.whole ∙ ap (λ x. h.int.piece ∷ x) (h.named
+    ∙ ap (λ x. name ∷ x) (o.opening.whole
+    ∙ ap (λ x. o.opening.piece ∷ x) (o.void.whole
+    ∙ ap (λ x. o.void.piece ∷ x) (o.closing.whole
+    ∙ ap (λ x. o.closing.piece ∷ x) o.beginning.whole)))) in
     rw whole (a_function h.int.signed h.signed o.opening.signed o.void.signed o.closing.signed o.beginning.signed b)
 
 pub record Headed (limit : ℕ) (pieces : List Piece) (source : Source) : Type 0 where
@@ -136,10 +143,10 @@ text_parts n (a_function {int = int} {name = name} {opening = opening} {void = v
       opening = record { piece = opening; whole = refl; signed = o };
       void = record { piece = void; whole = refl; signed = v };
       closing = record { piece = closing; whole = refl; signed = c };
-      beginning = record { piece = beginning; whole = refl; signed = b }
-    }
+      beginning = record { piece = beginning; whole = refl; signed = b };
+    };
   };
-  body = body
+  body = body;
 }
 
 pub empty_text : {limit : ℕ} {pieces : List Piece} {source : Source} → pieces ≡ [] → ReadsText limit pieces source

@@ -1,5 +1,5 @@
 -- Each text has exactly one longest run, each run is a front of it, and no run passes the node where it is stuck.
-use Rattle.std.proofs.Common.{◌≡◌, ℕ, zero, suc, ◌+◌, ◌<◌, ◌≤◌, ℤ, List, [], ◌∷◌, ◌++◌, length, get_or, map, All, Option, Some, None, option_map, option_and_then, IfSome, slice_get, append-nil, refl, sym, ◌∙◌, ap, subst, arith, ◌⊎◌, inl, inr}
+use Rattle.std.proofs.Common.{◌≡◌, ℕ, zero, suc, ◌+◌, ◌<◌, ◌≤◌, ℤ, List, [], ◌∷◌, ◌++◌, length, Option, Some, None, option_map, option_and_then, IfSome, slice_get, append-nil, refl, sym, ◌∙◌, ap, subst, arith}
 use Rattle.std.proofs.lemmas.Option.{slice_get_within, slice_get_past}
 use Rattle.cx_first.specs.declared.evaluation.Undefined.{Undefined}
 use Rattle.cx_first.specs.declared.evaluation.End.TheVariants as at_end
@@ -7,7 +7,7 @@ use Rattle.cx_first.specs.declared.runs.RunEnd.{RunEnd}
 use Rattle.cx_first.specs.declared.runs.RunEnd.TheVariants.{Finished, Stuck}
 use Rattle.cx_first.specs.Tree.{Tree, Form, declares, assigns, returns, Source}
 use Rattle.cx_first.specs.Evaluation.{Memory, made}
-use Rattle.cx_first.specs.Runs.{Pair, start, value_in, stored, after, next, Step, Follows, IsRun, IsFront, IsLongest, EndsAt, Reaches, EndsIn, expression, values_at, StopsAt, IsStuck, Ends, NonePasses, OneLongest, GoesOn, IsNeverPassed, evaluates}
+use Rattle.cx_first.specs.Runs.{Pair, start, value_in, stored, after, next, Step, Follows, IsRun, IsFront, IsLongest, EndsAt, Reaches, EndsIn, expression, values_at, IsStuck, Ends, NonePasses, OneLongest, GoesOn, IsNeverPassed, evaluates}
 
 -- a step leads to a later statement, or to the end
 stored_up : (count : ℕ) (p q : Pair) (index : ℕ) (v : Option ℤ) → option_map (stored p index) v ≡ Some q → p.0 < q.0
@@ -95,7 +95,7 @@ longest_at : (text : Source) (run : List Pair) (p : Pair) → IsRun text run →
 longest_at text [] p h e n = absurd h
 longest_at text (a ∷ rest) p h e n = record {
   is_run = h;
-  longest = front_of text a rest h (rw (last_is e.0 a rest p e.1) n)
+  longest = front_of text a rest h (rw (last_is e.0 a rest p e.1) n);
 }
 
 pub ends_in : (text : Source) (p : Pair) → Reaches text p → next text p ≡ None → EndsIn text p
@@ -167,7 +167,7 @@ never_passed text statement node cause stuck =
       none_passes = λ other o. let f = stuck.ends.longest.longest other o in
           passes_front text statement node other f.0 (subst (NonePasses text statement node) f.1 all);
       memory = stuck.memory;
-      reached = record { run = run; is_run = stuck.ends.longest.is_run; ends = stuck.ends.ends }
+      reached = record { run = run; is_run = stuck.ends.longest.is_run; ends = stuck.ends.ends };
     }
 
 -- a text has one end
@@ -209,7 +209,7 @@ stuck_same text n node k other cause why a b =
     let tree : a.tree ≡ b.tree = cc in
     let nodes : node ≡ other = a.stops.stopped ∙ (ap (λ t. length (made t a.memory).values) tree ∙ (ap (λ m. length (made b.tree m).values) memory ∙ sym b.stops.stopped)) in
     let ends : at_end.Undefined cause ≡ at_end.Undefined why =
-        sym a.stops.undefined ∙ (ap (λ t. (made t a.memory).end) tree ∙ (ap (λ m. (made b.tree m).end) memory ∙ b.stops.undefined)) in
+    sym a.stops.undefined ∙ (ap (λ t. (made t a.memory).end) tree ∙ (ap (λ m. (made b.tree m).end) memory ∙ b.stops.undefined)) in
     let causes : cause ≡ why = cc in
     cc
 

@@ -1,20 +1,19 @@
 -- At most one tree reads the pieces of a text.
-use Rattle.std.proofs.Common.{◌≡◌, ℕ, suc, ◌+◌, ◌<◌, ◌≤◌, Bool, true, false, List, [], ◌∷◌, ◌++◌, length, take, drop, Option, Some, None, refl, sym, ◌∙◌, ap, subst, arith}
+use Rattle.std.proofs.Common.{◌≡◌, ℕ, true, false, List, [], ◌∷◌, length, take, drop, Option, Some, refl, sym, ◌∙◌, ap, subst, arith}
 use Rattle.cx_lex.specs.declared.token.Piece.{Piece}
-use Rattle.cx_first.specs.declared.tree.Operator.{Operator}
 use Rattle.cx_first.specs.declared.signs.Sign.{Sign}
 use Rattle.cx_first.specs.declared.signs.Sign.TheVariants as sign_is
 use Rattle.cx_first.specs.declared.statements.Awaits.{Awaits}
 use Rattle.cx_first.specs.declared.statements.Awaits.TheVariants as awaits
-use Rattle.cx_first.specs.Tree.{Tree, number, variable, negation, binary, brackets, Form, declares, assigns, returns, Source}
+use Rattle.cx_first.specs.Tree.{Tree, number, variable, negation, brackets, Form, declares, assigns, returns, Source}
 use Rattle.cx_first.specs.Names.{Names, index_of}
 use Rattle.cx_first.specs.Signs.{sign}
-use Rattle.cx_first.specs.Grammar.{Reads, a_number, a_variable, a_negation, in_brackets, a_chain, Chains, ends, goes_on, operator_of, level_of, Expression, Initialiser, without, initialised, Declarator, declares_a, follows, Simple, assignment, a_return, Reading, a_declaration, a_declarator, a_statement, Body, closed, more, ReadsText, nothing, a_function}
-use Rattle.cx_first.specs.Descent.{Stops, SignAt, ends_expression, ends_after, is_closed}
+use Rattle.cx_first.specs.Grammar.{Reads, a_number, a_variable, a_negation, in_brackets, a_chain, Chains, ends, goes_on, Expression, Initialiser, without, initialised, Declarator, declares_a, follows, Simple, assignment, a_return, Reading, a_declaration, a_declarator, a_statement, Body, closed, more, ReadsText}
+use Rattle.cx_first.specs.Descent.{Stops, SignAt, ends_expression, is_closed}
 use Rattle.cx_first.proofs.DescentLaws.{closed_stops, bracket_parts, chains_stop, chain_parts, chains_parts}
 use Rattle.cx_first.proofs.ExpressionLaws.{expression_counted, parts_of}
 use Rattle.cx_first.proofs.StatementLaws.{equals_parts, bare_parts, declarator_parts, declaration_parts, follows_ends, semicolon_ends, assigned_parts, returned_parts, declaration_behind, statement_parts}
-use Rattle.cx_first.proofs.ReaderLaws.{sign_along, closed_is, closed_parts, body_ended, body_parts, text_parts, empty_text, header_same}
+use Rattle.cx_first.proofs.ReaderLaws.{closed_parts, body_ended, body_parts, text_parts, empty_text, header_same}
 
 -- one operand
 number_parts : {names : Names} {p : Piece} {n : ℕ} {ts rest : List Piece} {t : Tree} → sign p ≡ sign_is.Number n → Reads names 0 (p ∷ ts) t rest
@@ -160,9 +159,9 @@ reading_same (a_statement s) r =
 goes_on_open : (limit : ℕ) (function : List ℕ) (here : Awaits) (names all : Names) (ts : List Piece) (form : Form) (forms : List Form)
     → Body limit function here names ts (form ∷ forms) all → is_closed here ts ≡ false
 goes_on_open limit function here names all ts form forms b = elim (is_closed here ts) as (λ x. is_closed here ts ≡ x → x ≡ false) [
-    true ↦ λ e. absurd (let k : form ∷ forms ≡ [] = (body_ended limit function here names all ts (form ∷ forms) e b).0 in cc)
+  | true ↦ λ e. absurd (let k : form ∷ forms ≡ [] = (body_ended limit function here names all ts (form ∷ forms) e b).0 in cc)
   | false ↦ λ e. refl
-  ] refl
+] refl
 
 body_moved : {limit : ℕ} {function : List ℕ} {next after : Awaits} {then others all : Names} {rest behind : List Piece} {forms : List Form}
     → next ≡ after → then ≡ others → rest ≡ behind → Body limit function after others behind forms all → Body limit function next then rest forms all

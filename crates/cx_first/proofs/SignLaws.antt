@@ -1,10 +1,9 @@
 -- What a number's sign says is what its text is.
-use Rattle.std.proofs.Common.{◌≡◌, ℕ, ◌<◌, ◌≤◌, ◌==◌, Bool, true, false, not, ◌&&◌, cond, nat_le, nat_lt, List, [], ◌∷◌, length, refl, sym, ◌∙◌, ap, subst, arith}
+use Rattle.std.proofs.Common.{◌≡◌, ℕ, ◌==◌, Bool, true, false, not, ◌&&◌, cond, nat_le, nat_lt, List, [], ◌∷◌, length, refl, arith}
 use Rattle.std.proofs.lemmas.Bool.Decides.{nat_tests}
 use Rattle.std.specs.List.{list_all}
 use Rattle.cx_lex.specs.Characters.{is_digit}
-use Rattle.cx_lex.specs.Forms.{number_of, greatest, IsDecimal, IsIntConstant}
-use Rattle.cx_first.specs.declared.signs.Sign.{Sign}
+use Rattle.cx_lex.specs.Forms.{number_of, greatest, IsIntConstant}
 use Rattle.cx_first.specs.declared.signs.Sign.TheVariants as sign_is
 use Rattle.cx_first.specs.Signs.{number, is_int_constant}
 
@@ -43,6 +42,6 @@ number_is text value h = rw (constant_true text h.0, h.1) refl
 pub number_none : (text : List ℕ) → ¬ IsIntConstant text → sign_is.Foreign ≡ number text
 unfolding number
 number_none text h = elim (is_int_constant text) as (λ b. is_int_constant text ≡ b → sign_is.Foreign ≡ cond b (sign_is.Number (number_of text)) sign_is.Foreign) [
-    true ↦ λ e. absurd (h (constant_is text e))
+  | true ↦ λ e. absurd (h (constant_is text e))
   | false ↦ λ e. refl
-  ] refl
+] refl

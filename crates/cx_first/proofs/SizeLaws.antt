@@ -1,17 +1,18 @@
 -- A tree has at most as many nodes and brackets as pieces, and a text at most as many statements.
-use Rattle.std.proofs.Common.{◌≡◌, ℕ, ◌+◌, ◌<◌, ◌≤◌, ◌^◌, List, [], ◌∷◌, ◌++◌, length, All, Option, Some, None, IfSome, refl, sym, ◌∙◌, ap, subst, arith, length-append}
+use Rattle.std.proofs.Common.{ℕ, ◌+◌, ◌<◌, ◌≤◌, ◌^◌, List, length, All, Option, IfSome, ap, arith, length-append}
 use Rattle.std.proofs.lemmas.List.Elements.{All-cons}
 use Rattle.cx_lex.specs.declared.token.Piece.{Piece}
 use Rattle.cx_first.specs.declared.signs.Sign.{Sign}
 use Rattle.cx_first.specs.declared.statements.Awaits.{Awaits}
-use Rattle.cx_first.specs.Tree.{Tree, Form, declares, assigns, returns, Source}
+use Rattle.cx_first.specs.Tree.{Tree, Form, Source}
 use Rattle.cx_first.specs.Names.{Names}
 use Rattle.cx_first.specs.Evaluation.{size}
-use Rattle.cx_first.specs.Runs.{IsSmall, IsSmallForm, IsNumbered, evaluates}
+use Rattle.cx_first.specs.Runs.{IsSmall, IsSmallForm, IsNumbered}
 use Rattle.cx_first.specs.Grammar.{Reads, a_number, a_variable, a_negation, in_brackets, a_chain, Chains, ends, goes_on, Expression, Initialiser, without, initialised, Declarator, declares_a, Simple, assignment, a_return, Reading, a_declaration, a_declarator, a_statement, Body, closed, more, ReadsText, nothing, a_function}
 
 mutual
   unfolding size
+
   pub reads_size : {names : Names} {level : ℕ} {ts rest : List Piece} {t : Tree} → Reads names level ts t rest → size t + length rest ≤ length ts
   reads_size (a_number e) = omega arith
   reads_size (a_variable e f) = omega arith

@@ -1,17 +1,15 @@
 -- The grammar's statements taken apart and put together, as the reader does.
-use Rattle.std.proofs.Common.{◌≡◌, ◌≢◌, ℕ, ◌+◌, ◌<◌, ◌≤◌, Bool, true, false, List, [], ◌∷◌, ◌++◌, length, Option, Some, None, option_map, refl, sym, ◌∙◌, ap, subst, arith}
+use Rattle.std.proofs.Common.{◌≡◌, ℕ, true, List, [], ◌∷◌, ◌++◌, length, Option, Some, None, refl, sym, ◌∙◌, subst}
 use Rattle.cx_base.specs.declared.place.Place.{Place}
 use Rattle.cx_lex.specs.declared.token.Piece.{Piece}
-use Rattle.cx_first.specs.declared.tree.Statement.TheVariants.{Declare, Assign, Return}
-use Rattle.cx_first.specs.declared.tree.Expr.{Expr}
 use Rattle.cx_first.specs.declared.signs.Sign.{Sign}
 use Rattle.cx_first.specs.declared.signs.Sign.TheVariants as sign_is
 use Rattle.cx_first.specs.declared.statements.Awaits.{Awaits}
 use Rattle.cx_first.specs.declared.statements.Awaits.TheVariants as awaits
-use Rattle.cx_first.specs.Tree.{Tree, tree_of, Form, form_of, declares, assigns, returns}
+use Rattle.cx_first.specs.Tree.{Tree, Form, declares, assigns, returns}
 use Rattle.cx_first.specs.Names.{Names, index_of}
 use Rattle.cx_first.specs.Signs.{sign}
-use Rattle.cx_first.specs.Grammar.{Expression, IsNew, Initialiser, without, initialised, Declarator, declares_a, follows, Simple, assignment, a_return, Reading, a_declaration, a_declarator, a_statement}
+use Rattle.cx_first.specs.Grammar.{Expression, Initialiser, without, initialised, Declarator, declares_a, follows, Simple, assignment, a_return, Reading, a_declaration, a_declarator, a_statement}
 use Rattle.cx_first.specs.Descent.{SignAt, ends_expression, NewNameAt}
 
 -- initialisers
@@ -109,7 +107,13 @@ pub record Assigned (limit : ℕ) (names : Names) (p : Piece) (ts : List Piece) 
 pub assigned_parts : {limit : ℕ} {names : Names} {p : Piece} {ts rest : List Piece} {form : Form} → sign p ≡ sign_is.Name
     → Simple limit names (p ∷ ts) form rest → Assigned limit names p ts form rest
 assigned_parts n (assignment {q = q} {i = i} {t = t} {ts = behind} f g h x) = record {
-  index = i; tree = t; behind = behind; equals = record { piece = q; whole = refl; signed = h }; named = g; is = refl; expression = x
+  index = i;
+  tree = t;
+  behind = behind;
+  equals = record { piece = q; whole = refl; signed = h };
+  named = g;
+  is = refl;
+  expression = x;
 }
 assigned_parts n (a_return f x) = absurd cc
 

@@ -1,15 +1,15 @@
 -- What a statement of the code's text is as a statement of its source, and where it leads.
-use Rattle.std.proofs.Common.{◌≡◌, ℕ, ◌+◌, ◌<◌, ◌≤◌, ℤ, List, length, get_or, map, Option, Some, None, option_map, option_and_then, slice_get, refl, sym, ◌∙◌, ap, subst, arith}
+use Rattle.std.proofs.Common.{◌≡◌, ℕ, ◌+◌, ◌<◌, ◌≤◌, length, get_or, map, Option, Some, None, option_map, slice_get, refl, sym, ◌∙◌, ap, subst, arith}
 use Rattle.std.proofs.lemmas.List.{length-map}
 use Rattle.std.proofs.Math.ListN.{get_or-map}
-use Rattle.std.proofs.lemmas.Option.{slice_get-map, slice_get_read, get_or_from_slice_get, slice_get_within}
+use Rattle.std.proofs.lemmas.Option.{slice_get-map, slice_get_read}
 use Rattle.cx_first.specs.declared.evaluation.Undefined.{Undefined}
 use Rattle.cx_first.specs.declared.tree.Statement.{Statement}
 use Rattle.cx_first.specs.declared.tree.FirstText.{FirstText}
 use Rattle.cx_first.specs.declared.runs.RunEnd.TheVariants.{Finished, Stuck}
-use Rattle.cx_first.specs.Tree.{Tree, Form, declares, assigns, returns, Source, form_of, source_of}
-use Rattle.cx_first.specs.Evaluation.{Memory, made}
-use Rattle.cx_first.specs.Runs.{Pair, value_of, value_in, stored, after, next, Step, Reaches, EndsIn, expression, evaluates, StopsAt, IsStuck, Ends, IsNumbered, IsSmallForm}
+use Rattle.cx_first.specs.Tree.{Tree, Form, declares, assigns, returns, form_of, source_of}
+use Rattle.cx_first.specs.Evaluation.{Memory}
+use Rattle.cx_first.specs.Runs.{Pair, value_in, after, next, Reaches, evaluates, StopsAt, Ends, IsNumbered, IsSmallForm}
 use Rattle.cx_first.specs.Steps.{IsNowhere}
 use Rattle.cx_first.proofs.RunLaws.{reaches_on, ends_in, no_step}
 
@@ -39,10 +39,12 @@ pub goes_out : (text : FirstText) (i : ℕ) (m : Memory) (x : Statement) → i <
     → x ≡ get_or text.statements i x → Reaches (source_of text) (i, m)
     → ((count number : ℕ) → after count (number, m) (form_of x) ≡ Some (count, m)) → Ends (source_of text) Finished
 goes_out text i m x h e r s =
-    let n : ℕ = length (source_of text).statements in
-    (m, ends_in (source_of text) (n, m)
-        (reaches_on (source_of text) (i, m) (n, m) r (next_at text i m x (Some (n, m)) h e (s n i)))
-        (no_step (source_of text) (n, m) (omega arith)))
+    let n : ℕ = length (source_of text).statements in (
+      m,
+      ends_in (source_of text) (n, m)
+          (reaches_on (source_of text) (i, m) (n, m) r (next_at text i m x (Some (n, m)) h e (s n i)))
+          (no_step (source_of text) (n, m) (omega arith)),
+    )
 
 pub comes_out : (text : FirstText) (i : ℕ) (m : Memory) → length text.statements ≤ i → i ≤ length text.statements
     → Reaches (source_of text) (i, m) → Ends (source_of text) Finished
@@ -75,5 +77,5 @@ goes_nowhere text i m x node cause h e r n = record {
   ends = ends_in (source_of text) (i, m) r (next_at text i m x None h e (nowhere_none (length (source_of text).statements) i (form_of x) m node cause n));
   tree = n.tree;
   evaluates = rw (form_at text i x h e) n.evaluates;
-  stops = n.stops
+  stops = n.stops;
 }

@@ -2,7 +2,7 @@
 use Rattle.std.specs.Prelude.{ℕ, ◌+◌, ℤ, pos, length, Option, Some, None}
 use Rattle.cx_tree.specs.declared.operators.Op.TheVariants as operation
 use Rattle.cx_first.specs.declared.evaluation.Undefined.{Undefined}
-use Rattle.cx_first.specs.declared.evaluation.Undefined.TheVariants.{Uninitialized, ZeroDivisor, Overflow}
+use Rattle.cx_first.specs.declared.evaluation.Undefined.TheVariants.{Uninitialized, Overflow}
 use Rattle.cx_first.specs.declared.evaluation.End.{End}
 use Rattle.cx_first.specs.declared.evaluation.End.TheVariants as at_end
 use Rattle.cx_first.specs.declared.evaluation.Tally.{Tally}

@@ -1,5 +1,5 @@
 -- What the step of a statement did to the memory, by where it leads.
-use Rattle.std.specs.Prelude.{◌≡◌, ℕ, ◌+◌, ℤ, Option, Some, option_map, slice_set}
+use Rattle.std.specs.Prelude.{◌≡◌, ℕ, ◌+◌, ℤ, Some, slice_set}
 use Rattle.cx_first.specs.declared.runs.Next.{Next}
 use Rattle.cx_first.specs.declared.runs.Next.TheVariants.{Behind, Ended, Nowhere}
 use Rattle.cx_first.specs.declared.evaluation.Undefined.{Undefined}

@@ -6,7 +6,7 @@ ghost use Rattle.cx_first.specs.Evaluation as meaning;
 ghost use Rattle.cx_first.specs.Counting.{last_counted, then_count, counts_on, counted};
 
 use crate::tree::{Expr, Operator};
-use cx_tree::{arith, IntType, Op, Platform};
+use cx_tree::{IntType, Op, Platform, arith};
 
 /// Why an evaluation has no value.
 #[derive(Clone, Copy, Debug, PartialEq, Eq)]

@@ -8,7 +8,7 @@ ghost use Rattle.cx_first.specs.Signs.{sign};
 ghost use Rattle.cx_first.specs.Descent.{Stops, OperatorAt, NoOperator, SignAt, NoSign};
 
 use crate::names::Names;
-use crate::signs::{behind_sign, first, sign_of, Sign};
+use crate::signs::{Sign, behind_sign, first, sign_of};
 use crate::tree::{Expr, Operator};
 use cx_base::NoMemory;
 use cx_lex::Piece;
@@ -71,7 +71,11 @@ fn variable<'a>(names: &Names, piece: &'a Piece, rest: &'a [Piece]) -> Option<(E
 /// An operand: a number, a name, a negation or an expression in brackets.
 #[cycle(expression)]
 #[tactic(auto, using(crate::proofs::TreeLaws::trees))]
-fn operand<'a>(alloc: Global, names: &Names, pieces: &'a [Piece]) -> Result<Option<(Expr, &'a [Piece])>, NoMemory>
+fn operand<'a>(
+    alloc: Global,
+    names: &Names,
+    pieces: &'a [Piece],
+) -> Result<Option<(Expr, &'a [Piece])>, NoMemory>
     requires { length names.now ≤ 4294967296 }
     ensures found { IfOk result (λ f. IfSome f (λ x. Reads names.now 0 pieces.now (tree.tree_of x.0) x.1.now)) }
     ensures only { (t : tree.Tree) (rest : Items Piece) → Reads names.now 0 pieces.now t rest → IfOk result (λ f. IsSomeAnd f (λ x. (tree.tree_of x.0 ≡ t) × (x.1.now ≡ rest))) }
@@ -95,7 +99,12 @@ fn operand<'a>(alloc: Global, names: &Names, pieces: &'a [Piece]) -> Result<Opti
 /// A negation, behind its `-`.
 #[cycle(expression)]
 #[tactic(auto, using(crate::proofs::TreeLaws::trees))]
-fn negation<'a>(alloc: Global, names: &Names, piece: &'a Piece, pieces: &'a [Piece]) -> Result<Option<(Expr, &'a [Piece])>, NoMemory>
+fn negation<'a>(
+    alloc: Global,
+    names: &Names,
+    piece: &'a Piece,
+    pieces: &'a [Piece],
+) -> Result<Option<(Expr, &'a [Piece])>, NoMemory>
     requires few { length names.now ≤ 4294967296 }
     requires minus { sign piece.now ≡ Sign.Minus }
     ensures found { IfOk result (λ f. IfSome f (λ x. Reads names.now 0 (piece.now ∷ pieces.now) (tree.tree_of x.0) x.1.now)) }
@@ -115,7 +124,12 @@ fn negation<'a>(alloc: Global, names: &Names, piece: &'a Piece, pieces: &'a [Pie
 /// An expression in brackets, behind the first of them.
 #[cycle(expression)]
 #[tactic(auto, using(crate::proofs::TreeLaws::trees))]
-fn bracketed<'a>(alloc: Global, names: &Names, piece: &'a Piece, pieces: &'a [Piece]) -> Result<Option<(Expr, &'a [Piece])>, NoMemory>
+fn bracketed<'a>(
+    alloc: Global,
+    names: &Names,
+    piece: &'a Piece,
+    pieces: &'a [Piece],
+) -> Result<Option<(Expr, &'a [Piece])>, NoMemory>
     requires few { length names.now ≤ 4294967296 }
     requires open { sign piece.now ≡ Sign.Open }
     ensures found { IfOk result (λ f. IfSome f (λ x. Reads names.now 0 (piece.now ∷ pieces.now) (tree.tree_of x.0) x.1.now)) }
@@ -137,7 +151,12 @@ fn bracketed<'a>(alloc: Global, names: &Names, piece: &'a Piece, pieces: &'a [Pi
 /// An expression of the operators up to a level.
 #[cycle(expression)]
 #[tactic(auto, using(crate::proofs::TreeLaws::trees))]
-pub(crate) fn chain<'a>(alloc: Global, names: &Names, level: u8, pieces: &'a [Piece]) -> Result<Option<(Expr, &'a [Piece])>, NoMemory>
+pub(crate) fn chain<'a>(
+    alloc: Global,
+    names: &Names,
+    level: u8,
+    pieces: &'a [Piece],
+) -> Result<Option<(Expr, &'a [Piece])>, NoMemory>
     requires few { length names.now ≤ 4294967296 }
     requires level { level ≤ 2 }
     ensures found { IfOk result (λ f. IfSome f (λ x. Reads names.now level pieces.now (tree.tree_of x.0) x.1.now)) }
@@ -156,7 +175,13 @@ pub(crate) fn chain<'a>(alloc: Global, names: &Names, level: u8, pieces: &'a [Pi
 /// The operators of a level behind their first operand, from left to right.
 #[cycle(expression)]
 #[tactic(auto, using(crate::proofs::TreeLaws::trees))]
-fn operators<'a>(alloc: Global, names: &Names, level: u8, left: Expr, pieces: &'a [Piece]) -> Result<Option<(Expr, &'a [Piece])>, NoMemory>
+fn operators<'a>(
+    alloc: Global,
+    names: &Names,
+    level: u8,
+    left: Expr,
+    pieces: &'a [Piece],
+) -> Result<Option<(Expr, &'a [Piece])>, NoMemory>
     requires few { length names.now ≤ 4294967296 }
     requires low { 0 < level }
     requires level { level ≤ 2 }

@@ -2,11 +2,11 @@
 //! its reader, its evaluator and its runs (ISO/IEC 9899:2011, 6.5 to 6.8).
 #![tactic(auto)]
 
-pub use evaluation::{evaluate, End, Evaluated, Undefined};
+pub use evaluation::{End, Evaluated, Undefined, evaluate};
 pub use laws::{one_longest_run, one_tree, runs_go_on, stuck_is_never_passed};
 pub use nodes::{Node, node_at, stuck_at_a_node};
 pub use reader::read;
-pub use runs::{run, RunEnd};
+pub use runs::{RunEnd, run};
 pub use signs::Sign;
 pub use statements::Awaits;
 pub use tree::{Expr, FirstText, Operator, Statement};
@@ -21,4 +21,6 @@ mod reader;
 mod runs;
 mod signs;
 mod statements;
+#[cfg(test)]
+mod tests;
 mod tree;

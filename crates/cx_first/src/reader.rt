@@ -8,8 +8,8 @@ ghost use Rattle.cx_first.specs.Descent.{is_closed, HeaderAt, NoHeader, OpeningA
 ghost use Rattle.cx_first.specs.Runs.{IsNumbered};
 
 use crate::names::Names;
-use crate::signs::{behind_sign, first, sign_of, Sign};
-use crate::statements::{statement, Awaits};
+use crate::signs::{Sign, behind_sign, first, sign_of};
+use crate::statements::{Awaits, statement};
 use crate::tree::{FirstText, Statement};
 use cx_base::{List, NoMemory};
 use cx_lex::Piece;
@@ -117,11 +117,7 @@ fn function(
 }
 
 /// The first text that the pieces are, with expressions of at most so many pieces.
-fn read_within(
-    alloc: Global,
-    limit: usize,
-    pieces: &[Piece],
-) -> Result<Option<FirstText>, NoMemory>
+fn read_within(alloc: Global, limit: usize, pieces: &[Piece]) -> Result<Option<FirstText>, NoMemory>
     requires { length pieces.now < 4294967296 }
     ensures found { IfOk result (λ f. IfSome f (λ text. ReadsText limit pieces.now (source_of text))) }
     ensures only { (source : Source) → ReadsText limit pieces.now source → IfOk result (λ f. IsSomeAnd f (λ text. source_of text ≡ source)) }

@@ -4,7 +4,7 @@ ghost use Rattle.cx_first.specs.Tree.{tree_of, form_of, source_of};
 ghost use Rattle.cx_first.specs.Runs as meaning;
 ghost use Rattle.cx_first.specs.Steps.{StepIs, StoresIs, LeavesIs};
 
-use crate::evaluation::{evaluate, Evaluated, Undefined};
+use crate::evaluation::{Evaluated, Undefined, evaluate};
 use crate::tree::{Expr, FirstText, Statement};
 use cx_base::NoMemory;
 use std::alloc::Global;
@@ -74,7 +74,9 @@ fn step(memory: &mut Vec<Option<i128>>, statement: &Statement) -> Next
             ..
         } => store(memory, *variable, value),
         Statement::Assign {
-            variable, value, ..
+            variable,
+            value,
+            ..
         } => store(memory, *variable, value),
         Statement::Return { value, .. } => leave(memory.as_slice(), value),
     }

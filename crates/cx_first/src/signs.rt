@@ -4,7 +4,7 @@ ghost use Rattle.cx_first.specs.Signs as meaning;
 ghost use Rattle.cx_first.specs.Descent.{SignAt, NoSign};
 
 use crate::keywords::{equals, is_keyword};
-use cx_lex::{number_value, Kind, Piece};
+use cx_lex::{Kind, Piece, number_value};
 
 /// The sign of a piece: all that the grammar asks of it but its text and its place.
 #[derive(Clone, Copy, Debug, PartialEq, Eq)]

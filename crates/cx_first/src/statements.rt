@@ -10,7 +10,7 @@ ghost use Rattle.cx_first.specs.Descent.{ends_expression, ends_after, NewNameAt,
 use crate::expressions::chain;
 use crate::keywords::equals;
 use crate::names::Names;
-use crate::signs::{behind_sign, first, sign_of, Sign};
+use crate::signs::{Sign, behind_sign, first, sign_of};
 use crate::tree::{Expr, Statement};
 use cx_base::NoMemory;
 use cx_lex::Piece;
@@ -24,7 +24,6 @@ pub enum Awaits {
     /// A further declarator of a declaration.
     Declarator,
 }
-
 
 /// Whether a mark stands behind expressions, and never in them.
 #[tactic(auto, unfolding(crate::specs::Descent::ends_expression))]

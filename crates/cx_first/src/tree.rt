@@ -16,11 +16,20 @@ pub enum Operator {
 #[derive(Debug, Drop)]
 pub enum Expr {
     /// A decimal constant (C11 6.4.4.1).
-    Number { value: u32, at: Place },
+    Number {
+        value: u32,
+        at: Place,
+    },
     /// The value of a variable (C11 6.5.1).
-    Variable { variable: u32, at: Place },
+    Variable {
+        variable: u32,
+        at: Place,
+    },
     /// A unary `-` (C11 6.5.3.3).
-    Negation { at: Place, operand: Boxed<Expr> },
+    Negation {
+        at: Place,
+        operand: Boxed<Expr>,
+    },
     /// An operator between two operands (C11 6.5.5 and 6.5.6).
     Binary {
         operator: Operator,
@@ -29,7 +38,9 @@ pub enum Expr {
         right: Boxed<Expr>,
     },
     /// An expression in brackets (C11 6.5.1p5), which makes no value of its own.
-    Brackets { inner: Boxed<Expr> },
+    Brackets {
+        inner: Boxed<Expr>,
+    },
 }
 
 /// A statement or a declarator. `at` is the place of the declared or assigned name, or of `return`.
@@ -48,7 +59,10 @@ pub enum Statement {
         value: Expr,
     },
     /// A `return` with its expression (C11 6.8.6.4).
-    Return { at: Place, value: Expr },
+    Return {
+        at: Place,
+        value: Expr,
+    },
 }
 
 /// A first text: its declared names and its statements, both in order.

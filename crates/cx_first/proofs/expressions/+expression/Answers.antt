@@ -1,9 +1,8 @@
-use Rattle.std.proofs.Common.{◌≡◌, ◌+◌, ◌-◌, ◌≤◌, ◌<◌, ℕ, List, ◌∷◌, length, ap, sym, ◌∙◌, subst, arith}
+use Rattle.std.proofs.Common.{◌≡◌, ◌+◌, ◌-◌, ◌∷◌, length, ap, sym, arith}
 use Rattle.std.proofs.lemmas.Result.{IfOk-weaker}
 use Rattle.std.proofs.lemmas.Option.{IfSome_then}
-use Rattle.cx_lex.specs.declared.token.Piece.{Piece}
-use Rattle.cx_first.specs.Tree.{Tree, tree_of}
-use Rattle.cx_first.specs.Grammar.{Reads, Chains, ends}
+use Rattle.cx_first.specs.Tree.{tree_of}
+use Rattle.cx_first.specs.Grammar.{Chains, ends}
 use Rattle.cx_first.proofs.DescentLaws.{reads_number, reads_negation, reads_brackets, reads_chain, chains_more, closed_stops, bracket_parts, chain_parts, chains_parts, brackets_same, sign_same, sign_is_at, chains_on}
 use Rattle.cx_first.proofs.expressions.+expression.Goals as goal
 
@@ -83,7 +82,7 @@ operators-loop-operator-preserved t c =
           let h = c.loop-operator.invariant.only t' end g s in
           let p = chains_parts (c.args.level - 1) c.in-Some.operator e o.operator o.binds (rw o.whole at h) s in
           let same = rw c.in-Some-2.is at (c.in_ok-chain.ensures.only p.right p.mid p.reads p.stops) in
-          chains_on _ _ _ _ _ _ _ _ _ _ _ _ _ c.in_ok-new-in-Some-2.ensures c.in_ok-new-in-Some-2-2.ensures same.0 same.1 p.chains
+          chains_on _ _ _ _ _ _ _ _ _ _ _ _ _ c.in_ok-new-in-Some-2.ensures c.in_ok-new-in-Some-2-2.ensures same.0 same.1 p.chains;
     }
 
 pub operators-returns-clause-found : goal.operators-returns-clause-found

@@ -1,4 +1,4 @@
-use Rattle.std.proofs.Common.{◌≡◌, ◌≤◌, ◌+◌, ◌*◌, List, length}
+use Rattle.std.proofs.Common.{◌≤◌, ◌+◌, ◌*◌, List, length}
 use Rattle.cx_lex.specs.declared.token.Piece.{Piece}
 use Rattle.cx_first.specs.Tree.{Tree, tree_of}
 use Rattle.cx_first.specs.Grammar.{Chains}
@@ -24,7 +24,7 @@ abbrev pub invariant-operators-loop-operator : goal.invariant-operators-loop-ope
 invariant-operators-loop-operator l = record {
   shorter : length l.rest ≤ length l.pieces;
   found : (t : Tree) (end : List Piece) → Chains l.names l.level (tree_of l.left) l.rest t end → Chains l.names l.level (tree_of l.fn.left) l.pieces t end;
-  only : (t : Tree) (end : List Piece) → Chains l.names l.level (tree_of l.fn.left) l.pieces t end → Stops l.level end → Chains l.names l.level (tree_of l.left) l.rest t end
+  only : (t : Tree) (end : List Piece) → Chains l.names l.level (tree_of l.fn.left) l.pieces t end → Stops l.level end → Chains l.names l.level (tree_of l.left) l.rest t end;
 }
 
 abbrev pub decreases-operators-loop-operator : goal.decreases-operators-loop-operator

@@ -1,7 +1,6 @@
-use Rattle.std.proofs.Common.{◌≡◌, ◌+◌, ◌<◌, List, [], ◌∷◌, ◌++◌, length, map, sym, ◌∙◌, ap, subst, arith, append-nil}
+use Rattle.std.proofs.Common.{List, [], ◌∷◌, ◌++◌, map, sym, ◌∙◌, ap, arith, append-nil}
 use Rattle.cx_first.specs.Tree.{Form, form_of}
-use Rattle.cx_first.specs.Names.{Names}
-use Rattle.cx_first.specs.Grammar.{Body, more}
+use Rattle.cx_first.specs.Grammar.{more}
 use Rattle.cx_first.proofs.ReaderLaws.{body_parts, body_ends, body_ended, forms_on}
 use Rattle.cx_first.proofs.reader.body.Goals as goal
 
@@ -21,11 +20,12 @@ loop-rest-preserved c =
       only = λ forms all b.
           let m = c.loop-rest.invariant.only forms all b in
           let p = body_parts (sym c.loop-rest-test.ensures) m.2 in
-          let same = rw c.in-Some.is at (c.in_ok-statement.ensures.only p.form p.next p.then p.rest p.reading) in
-          (p.others,
-           m.1 ∙ (ap (λ x. map form_of c.loop-rest.statements ++ x) p.forms_are
-               ∙ (ap (λ x. map form_of c.loop-rest.statements ++ x ∷ p.others) (sym same.0) ∙ sym (on p.others))),
-           rw (same.1, same.2, same.3) p.body)
+          let same = rw c.in-Some.is at (c.in_ok-statement.ensures.only p.form p.next p.then p.rest p.reading) in (
+            p.others,
+            m.1 ∙ (ap (λ x. map form_of c.loop-rest.statements ++ x) p.forms_are
+                ∙ (ap (λ x. map form_of c.loop-rest.statements ++ x ∷ p.others) (sym same.0) ∙ sym (on p.others))),
+            rw (same.1, same.2, same.3) p.body,
+          );
     }
 
 pub returns-clause-found : goal.returns-clause-found

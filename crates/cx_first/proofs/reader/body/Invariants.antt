@@ -1,4 +1,4 @@
-use Rattle.std.proofs.Common.{◌≡◌, ◌≤◌, ◌<◌, ◌+◌, List, [], ◌++◌, length, map}
+use Rattle.std.proofs.Common.{◌≡◌, ◌<◌, ◌+◌, List, [], ◌++◌, length, map}
 use Rattle.cx_first.specs.Tree.{Form, form_of}
 use Rattle.cx_first.specs.Names.{Names}
 use Rattle.cx_first.specs.Grammar.{Body}
@@ -11,7 +11,7 @@ invariant-loop-rest l = record {
   found : (forms : List Form) (all : Names) → Body l.limit l.function l.awaits l.names l.rest forms all
       → Body l.limit l.function awaits.Statement [] l.pieces (map form_of l.statements ++ forms) all;
   only : (forms : List Form) (all : Names) → Body l.limit l.function awaits.Statement [] l.pieces forms all
-      → (more : List Form) × (forms ≡ map form_of l.statements ++ more) × Body l.limit l.function l.awaits l.names l.rest more all
+      → (more : List Form) × (forms ≡ map form_of l.statements ++ more) × Body l.limit l.function l.awaits l.names l.rest more all;
 }
 
 abbrev pub decreases-loop-rest : goal.decreases-loop-rest

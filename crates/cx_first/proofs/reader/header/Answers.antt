@@ -1,5 +1,4 @@
-use Rattle.std.proofs.Common.{◌≡◌, List, refl, sym, ◌∙◌, subst}
-use Rattle.cx_lex.specs.declared.token.Piece.{Piece}
+use Rattle.std.proofs.Common.{refl, sym, ◌∙◌, subst}
 use Rattle.cx_first.specs.declared.signs.Sign.TheVariants as sign_is
 use Rattle.cx_first.specs.Descent.{SignAt, OpeningAt}
 use Rattle.cx_first.proofs.ReaderLaws.{sign_along}

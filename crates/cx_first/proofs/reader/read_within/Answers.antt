@@ -1,4 +1,3 @@
-use Rattle.std.proofs.Common.{◌≡◌, List, [], sym, ◌∙◌, subst}
 use Rattle.std.proofs.lemmas.Result.{IfOk-weaker}
 use Rattle.std.proofs.lemmas.Option.{IfSome_then}
 use Rattle.cx_first.specs.Grammar.{nothing}
@@ -16,4 +15,4 @@ returns-in-None-clause-only c = λ source r.
 pub returns-in-Some-clause-found : goal.returns-in-Some-clause-found
 returns-in-Some-clause-found c =
     IfOk-weaker c.function.result _ _ (λ f h. IfSome_then f h (λ x b. text_made _ _ _ _ _ _ c.in-Some.ensures.some (rw c.as_slice.ensures at b)))
-        c.function.ensures.found
+    c.function.ensures.found

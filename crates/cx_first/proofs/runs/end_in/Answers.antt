@@ -1,6 +1,5 @@
-use Rattle.std.proofs.Common.{◌≡◌, ◌<◌, ◌≤◌, length, get_or, refl, arith, ap}
+use Rattle.std.proofs.Common.{◌≡◌, ◌<◌, length, get_or, refl, arith, ap}
 use Rattle.cx_first.specs.Tree.{source_of}
-use Rattle.cx_first.specs.Runs.{Reaches}
 use Rattle.cx_first.proofs.RunLaws.{reaches_start}
 use Rattle.cx_first.proofs.StepLaws.{small_at, goes_behind, goes_out, comes_out, goes_nowhere}
 use Rattle.cx_first.proofs.runs.end_in.Goals as goal
@@ -9,7 +8,7 @@ pub loop-statement-init : goal.loop-statement-init
 loop-statement-init c = record {
   items = c.as_slice-statement-items.ensures;
   number = refl;
-  reaches = rw c.requires.empty (reaches_start (source_of c.args.text.now))
+  reaches = rw c.requires.empty (reaches_start (source_of c.args.text.now));
 }
 
 pub step-requires : goal.step-requires
@@ -37,7 +36,7 @@ loop-statement-preserved c =
     record {
       items = c.loop-statement.invariant.items;
       number = cc;
-      reaches = goes_behind c.args.text.now c.loop-statement.number c.loop-statement.memory.items c.step.new.memory.items c.statement-item.result h e c.loop-statement.invariant.reaches c.in-Behind.ensures
+      reaches = goes_behind c.args.text.now c.loop-statement.number c.loop-statement.memory.items c.step.new.memory.items c.statement-item.result h e c.loop-statement.invariant.reaches c.in-Behind.ensures;
     }
 
 pub returns : goal.returns

@@ -7,5 +7,5 @@ abbrev pub invariant-loop-statement : goal.invariant-loop-statement
 invariant-loop-statement l = record {
   items : l.statement-items ≡ l.text.statements;
   number : l.number ≡ l.statement-index;
-  reaches : Reaches (source_of l.text) (l.number, l.memory.items)
+  reaches : Reaches (source_of l.text) (l.number, l.memory.items);
 }

@@ -17,5 +17,5 @@ returns-in_default c = record {
   only = λ t rest e.
       let same = rw c.in-Some.is at (c.in_ok-expression.ensures.only t sign_is.Semicolon rest e semicolon_ends) in
       c.in_default.not-Semicolon same.1;
-  shorter = tt
+  shorter = tt;
 }

@@ -1,5 +1,4 @@
-use Rattle.std.proofs.Common.{◌≡◌, ℕ, List, [], ◌∷◌, sym, ◌∙◌, ap, subst, arith}
-use Rattle.cx_lex.specs.declared.token.Piece.{Piece}
+use Rattle.std.proofs.Common.{◌≡◌, [], ◌∷◌, sym, ◌∙◌, ap, subst}
 use Rattle.cx_first.specs.Signs.{sign}
 use Rattle.cx_first.specs.Grammar.{Reads}
 use Rattle.cx_first.proofs.ExpressionLaws.{expression_counted, parts_of, expression_made, counted_within, empty_is, full_is}
@@ -25,7 +24,7 @@ returns-in-None-clause-only c = λ t mark rest e m.
 pub returns-then-is_empty-clause-found : goal.returns-then-is_empty-clause-found
 returns-then-is_empty-clause-found c =
     expression_made _ _ _ _ _ _ _ _ _ _ _ c.in-Some.ensures c.split_at.ensures.front c.split_at.ensures.back c.in-Some-first.ensures
-        c.sign_of.ensures (rw c.in-Some-2.is at c.in_ok-chain.ensures.found) (empty_is _ c.if-is_empty.ensures)
+    c.sign_of.ensures (rw c.in-Some-2.is at c.in_ok-chain.ensures.found) (empty_is _ c.if-is_empty.ensures)
 
 pub returns-then-is_empty-clause-only : goal.returns-then-is_empty-clause-only
 returns-then-is_empty-clause-only c = λ t mark rest e m.

@@ -1,4 +1,4 @@
-use Rattle.std.proofs.Common.{◌≡◌, ◌∙◌, Some, sym, arith, ap, length}
+use Rattle.std.proofs.Common.{◌∙◌, Some, sym, arith, ap, length}
 use Rattle.cx_first.proofs.StatementLaws.{initialised_at, equals_parts, bare_at, bare_parts}
 use Rattle.cx_first.proofs.statements.initialiser.Goals as goal
 
@@ -21,5 +21,5 @@ pub returns-in_default-sign_of : goal.returns-in_default-sign_of
 returns-in_default-sign_of c = record {
   found = rw c.in-Some.ensures (bare_at (sym c.sign_of.ensures) c.in_default-sign_of.not-Equals);
   only = λ t mark rest i m. bare_parts _ (sym c.sign_of.ensures) c.in_default-sign_of.not-Equals (rw c.in-Some.ensures at i);
-  shorter = omega (arith, ap length c.in-Some.ensures)
+  shorter = omega (arith, ap length c.in-Some.ensures);
 }

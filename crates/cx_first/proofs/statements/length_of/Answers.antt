@@ -1,4 +1,4 @@
-use Rattle.std.proofs.Common.{◌≡◌, ◌+◌, ◌-◌, ℕ, suc, length, sym, ◌∙◌, ap, arith}
+use Rattle.std.proofs.Common.{◌≡◌, ◌+◌, ◌-◌, suc, length, sym, ◌∙◌, ap, arith}
 use Rattle.cx_first.specs.Descent.{ends_expression}
 use Rattle.cx_first.proofs.ExpressionLaws.{counts_stop, counts_out, counts_on, counts_none}
 use Rattle.cx_first.proofs.statements.length_of.Goals as goal
@@ -17,7 +17,7 @@ loop-piece-preserved c =
     record {
       within = omega arith;
       counted = omega (arith, ap length c.in-Some.ensures);
-      going = counts_on _ _ _ _ _ _ _ c.loop-piece.invariant.going c.in-Some.ensures (ap ends_expression (sym c.sign_of.ensures) ∙ sym c.if-ends_expression.ensures) z
+      going = counts_on _ _ _ _ _ _ _ c.loop-piece.invariant.going c.in-Some.ensures (ap ends_expression (sym c.sign_of.ensures) ∙ sym c.if-ends_expression.ensures) z;
     }
 
 pub returns : goal.returns

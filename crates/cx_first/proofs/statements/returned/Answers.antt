@@ -1,4 +1,4 @@
-use Rattle.std.proofs.Common.{◌≡◌, sym, ◌∙◌, ap}
+use Rattle.std.proofs.Common.{sym, ◌∙◌, ap}
 use Rattle.cx_first.specs.Tree.{returns}
 use Rattle.cx_first.specs.Grammar.{a_return}
 use Rattle.cx_first.proofs.StatementLaws.{returned_parts}

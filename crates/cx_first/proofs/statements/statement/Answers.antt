@@ -1,4 +1,4 @@
-use Rattle.std.proofs.Common.{◌≡◌, sym, ◌∙◌, subst}
+use Rattle.std.proofs.Common.{sym}
 use Rattle.std.proofs.lemmas.Result.{IfOk-weaker}
 use Rattle.std.proofs.lemmas.Option.{IfSome_then}
 use Rattle.cx_first.specs.Grammar.{a_statement}
@@ -8,7 +8,7 @@ use Rattle.cx_first.proofs.statements.statement.Goals as goal
 pub returns-in-Some-clause-found : goal.returns-in-Some-clause-found
 returns-in-Some-clause-found c =
     rw c.in-Statement.is (IfOk-weaker c.declaration-in-Some.result _ _
-        (λ f h. IfSome_then f h (λ x g. declaration_made c.in-Some.ensures g)) c.declaration-in-Some.ensures.found)
+    (λ f h. IfSome_then f h (λ x g. declaration_made c.in-Some.ensures g)) c.declaration-in-Some.ensures.found)
 
 pub returns-in-Some-clause-only : goal.returns-in-Some-clause-only
 returns-in-Some-clause-only c = λ form next then rest r.

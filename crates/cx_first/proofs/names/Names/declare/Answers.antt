@@ -1,4 +1,4 @@
-use Rattle.std.proofs.Common.{◌≡◌, ℕ, Vec, Global}
+use Rattle.std.proofs.Common.{ℕ, Vec, Global}
 use Rattle.cx_first.proofs.NameLaws.{declared}
 use Rattle.cx_first.proofs.names.Names.declare.Goals as goal
 

@@ -1,4 +1,4 @@
-use Rattle.std.proofs.Common.{◌≡◌, ℕ, Vec, Global, bytes_eq, sym, ◌∙◌, ap}
+use Rattle.std.proofs.Common.{ℕ, Vec, Global}
 use Rattle.cx_first.proofs.NameLaws.{found}
 use Rattle.cx_first.proofs.names.Names.find.Goals as goal
 
