@@ -185,7 +185,7 @@ struct Limit {
     is_first: bool,
 }
 
-fn limits() -> [Limit; 6] {
+fn limits() -> [Limit; 4] {
     [
         Limit {
             name: "127 brackets, 255 pieces",
@@ -206,23 +206,6 @@ fn limits() -> [Limit; 6] {
             name: "257 pieces",
             content: negated(256),
             is_first: false,
-        },
-        Limit {
-            name: "100,000 statements",
-            content: Content::Nested {
-                front: b"int f(void) { int x = 0; ",
-                opening: b"x = x + 1; ",
-                count: 100_000,
-                middle: b"return x",
-                closing: b"",
-                back: b"; }",
-            },
-            is_first: true,
-        },
-        Limit {
-            name: "4,194,304 blanks",
-            content: Content::Blanks(4_194_304),
-            is_first: true,
         },
     ]
 }
@@ -278,7 +261,7 @@ fn other_texts_are_not_built(rt: HostRuntime) -> Result<(), Fail> {
 }
 
 #[test]
-fn limits_hold(rt: HostRuntime) -> Result<(), Fail> {
+fn an_expression_has_at_most_256_pieces(rt: HostRuntime) -> Result<(), Fail> {
     for limit in limits() {
         try_text(
             &rt,
@@ -288,4 +271,23 @@ fn limits_hold(rt: HostRuntime) -> Result<(), Fail> {
         )?;
     }
     Ok(())
+}
+
+#[test]
+fn many_statements_are_run(rt: HostRuntime) -> Result<(), Fail> {
+    let content = Content::Nested {
+        front: b"int f(void) { int x = 0; ",
+        opening: b"x = x + 1; ",
+        count: 100_000,
+        middle: b"return x",
+        closing: b"",
+        back: b"; }",
+    };
+    try_text(&rt, "100,000 statements", content, Some(""))
+}
+
+#[test]
+fn a_file_has_at_most_4194304_bytes(rt: HostRuntime) -> Result<(), Fail> {
+    try_text(&rt, "4,194,304 bytes", Content::Blanks(4_194_304), Some(""))?;
+    try_text(&rt, "4,194,305 bytes", Content::Blanks(4_194_305), None)
 }

@@ -11,7 +11,7 @@ const NO_INPUT: &str = "cppcheck: error: could not find any file to check.\n";
 const READ_FAULT: &str = "a.c:0:0: error: File could not be read: a.c [readFault]\n";
 
 /// What is asked of one path, and what is told of it.
-const ANSWERS: [Case; 8] = [
+const ANSWERS: [Case; 7] = [
     PLAIN,
     Case {
         name: "an absent file",
@@ -51,15 +51,6 @@ const ANSWERS: [Case; 8] = [
     Case {
         name: "a file that is not empty",
         files: &[("a.c", Content::Text(b"?"))],
-        cause: Cause::NotBuilt,
-        status: 1,
-        told: "",
-        found: NOT_BUILT,
-        ..PLAIN
-    },
-    Case {
-        name: "4,194,305 bytes",
-        files: &[("a.c", Content::Blanks(4_194_305))],
         cause: Cause::NotBuilt,
         status: 1,
         told: "",
