@@ -7,7 +7,7 @@ use Rattle.cx_first.specs.declared.runs.RunEnd.{RunEnd}
 use Rattle.cx_first.specs.declared.runs.RunEnd.TheVariants.{Finished, Stuck}
 use Rattle.cx_first.specs.Tree.{Tree, Form, declares, assigns, returns, Source}
 use Rattle.cx_first.specs.Evaluation.{Memory, made}
-use Rattle.cx_first.specs.Runs.{Pair, start, value_in, stored, after, next, Step, Follows, IsRun, IsFront, IsLongest, EndsAt, Reaches, EndsIn, expression, values_at, IsStuck, Ends, NonePasses, OneLongest, GoesOn, IsNeverPassed, evaluates}
+use Rattle.cx_first.specs.Runs.{Pair, start, value_in, stored, after, next, Step, Follows, IsRun, IsFront, IsLongest, EndsAt, Reaches, EndsIn, expression, values_at, IsStuck, Ends, NonePasses, OneLongest, GoesOn, IsEvaluated, IsNeverPassed, evaluates}
 
 -- a step leads to a later statement, or to the end
 stored_up : (count : ℕ) (p q : Pair) (index : ℕ) (v : Option ℤ) → option_map (stored p index) v ≡ Some q → p.0 < q.0
@@ -220,22 +220,13 @@ ends_same text (Stuck n node cause) Finished h k = absurd (finished_or_stuck tex
 ends_same text (Stuck n node cause) (Stuck k other why) a b = stuck_same text n node k other cause why a b
 
 -- each pair of a run whose statement evaluates has a next one
-after_goes : (count : ℕ) (p : Pair) (form : Form) (tree : Tree) (v : ℤ) → evaluates form ≡ Some tree → value_in p.1 tree ≡ Some v
-    → (q : Pair) × (after count p form ≡ Some q)
-after_goes count p (declares index at None) tree v e h = absurd cc
-after_goes count p (declares index at (Some value)) tree v e h =
-    let same : value ≡ tree = cc in (stored p index v, rw (same, h) refl)
-after_goes count p (assigns index at value) tree v e h =
-    let same : value ≡ tree = cc in (stored p index v, rw (same, h) refl)
-after_goes count p (returns at value) tree v e h =
-    let same : value ≡ tree = cc in ((count, p.1), rw (same, h) refl)
-
-next_goes : (text : Source) (p : Pair) (form : Option Form) (tree : Tree) (v : ℤ) → option_and_then evaluates form ≡ Some tree
-    → value_in p.1 tree ≡ Some v → (q : Pair) × (option_and_then (after (length text.statements) p) form ≡ Some q)
-next_goes text p None tree v e h = absurd cc
-next_goes text p (Some form) tree v e h = after_goes (length text.statements) p form tree v e h
+after_goes : (count : ℕ) (p : Pair) (form : Form) → IsEvaluated p.1 form → (q : Pair) × (after count p form ≡ Some q)
+after_goes count p (declares index at None) h = ((p.0 + 1, p.1), refl)
+after_goes count p (declares index at (Some value)) h = (stored p index h.0, rw (h.1) refl)
+after_goes count p (assigns index at value) h = (stored p index h.0, rw (h.1) refl)
+after_goes count p (returns at value) h = ((count, p.1), rw (h.1) refl)
 
 pub run_goes : (text : Source) → GoesOn text
-run_goes text run pair h e tree at v value =
-    let found = next_goes text pair (slice_get text.statements pair.0) tree v at value in
-    (found.0, goes_on text run pair found.0 h e found.1)
+run_goes text run pair h e form at evaluated =
+    let found = after_goes (length text.statements) pair form evaluated in
+    (found.0, goes_on text run pair found.0 h e (rw at found.1))

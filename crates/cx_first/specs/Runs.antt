@@ -131,9 +131,13 @@ pub record IsNumbered (text : Source) : Type 0 where
 abbrev pub OneLongest : Source → Type 0
 OneLongest text = (run : List Pair) × IsLongest text run × ((other : List Pair) → IsLongest text other → other ≡ run)
 
+-- a statement evaluates in a memory: its expression has a value there, if it has an expression
+abbrev pub IsEvaluated : Memory → Form → Type 0
+IsEvaluated memory form = IfSome (evaluates form) (λ tree. (v : ℤ) × (value_in memory tree ≡ Some v))
+
 abbrev pub GoesOn : Source → Type 0
-GoesOn text = (run : List Pair) (pair : Pair) → IsRun text run → EndsAt run pair → (tree : Tree)
-    → expression text pair.0 ≡ Some tree → (v : ℤ) → value_in pair.1 tree ≡ Some v
+GoesOn text = (run : List Pair) (pair : Pair) → IsRun text run → EndsAt run pair → (form : Form)
+    → slice_get text.statements pair.0 ≡ Some form → IsEvaluated pair.1 form
     → (later : Pair) × IsRun text (run ++ later ∷ [])
 
 -- no run of the text passes the node where it is stuck, and a run comes to its statement
