@@ -1,5 +1,5 @@
 -- The words and what was seen have at most one report.
-use Rattle.std.proofs.Common.{◌≡◌, ℕ, List, [], ◌∷◌, Option, Some, None, refl, sym, ap, subst, ◌∙◌, ◌⊎◌, ⊎_elim, inl, inr, MatchOption}
+use Rattle.std.proofs.Common.{◌≡◌, ℕ, List, [], ◌∷◌, Option, Some, None, refl, sym, ap, subst, ◌∙◌, ◌⊎◌, ⊎_elim, MatchOption}
 use Rattle.cx_base.specs.declared.answers.Answer.{Answer}
 use Rattle.cx_base.specs.declared.answers.Answer.TheVariants.{Present, Absent, Folder, Unreadable, TooLarge}
 use Rattle.cx_base.specs.declared.answers.SeenEntry.{SeenEntry}
@@ -7,7 +7,6 @@ use Rattle.cx_base.specs.declared.finding.Finding.{Finding}
 use Rattle.cx_lex.proofs.CutLaws.{unique}
 use Rattle.cx_first.proofs.RunLaws.{ends_same}
 use Rattle.cx_first.proofs.SameLaws.{text_same}
-use Rattle.cx_first.specs.declared.evaluation.Undefined.{Undefined}
 use Rattle.cx_first.specs.declared.runs.RunEnd.{RunEnd}
 use Rattle.cx_first.specs.declared.runs.RunEnd.TheVariants.{Finished, Stuck}
 use Rattle.cx_first.specs.Grammar.{IsFirstText}
@@ -19,12 +18,12 @@ use Rattle.cx_run.specs.declared.report.ReportPiece.{ReportPiece}
 use Rattle.cx_run.specs.declared.report.UnitReport.{UnitReport}
 use Rattle.cx_run.specs.Asking.{source_of}
 use Rattle.cx_run.specs.First.{Means, IsFirst, IsFindingAt, FindsBy, Finds, finding_of}
-use Rattle.cx_run.specs.Reports.{AnswerDecides, SeenDecides, Decides, AreFindings, IsUnitReport, AreUnitReports, HasPieces, IsReport, all_pieces}
+use Rattle.cx_run.specs.Reports.{AnswerDecides, SeenDecides, AreFindings, IsUnitReport, AreUnitReports, HasPieces, IsReport, all_pieces}
 
 means_same : (bytes : List ℕ) (one other : Source) → Means bytes one → Means bytes other → one ≡ other
 means_same bytes one other a b =
     text_same 256 a.pieces one other a.read
-        (subst (λ pieces. IsFirstText pieces other) (unique bytes b.pieces a.pieces b.cut a.cut) b.read)
+    (subst (λ pieces. IsFirstText pieces other) (unique bytes b.pieces a.pieces b.cut a.cut) b.read)
 
 finding_same : (source : Source) (statement node : ℕ) (one other : Finding)
     → IsFindingAt source statement node one → IsFindingAt source statement node other → one ≡ other
@@ -81,9 +80,9 @@ pieces_same NoMemory seen some others a b = absurd a
 either_same : (P : Type 0) (one other : Cause) → (P × (one ≡ Done)) ⊎ (¬ P × (one ≡ NotBuilt)) → (P × (other ≡ Done)) ⊎ (¬ P × (other ≡ NotBuilt)) → one ≡ other
 either_same P one other a b =
     ⊎_elim
-        (λ x. ⊎_elim (λ y. x.1 ∙ sym y.1) (λ y. absurd (y.0 x.0)) b)
-        (λ x. ⊎_elim (λ y. absurd (x.0 y.0)) (λ y. x.1 ∙ sym y.1) b)
-        a
+    (λ x. ⊎_elim (λ y. x.1 ∙ sym y.1) (λ y. absurd (y.0 x.0)) b)
+    (λ x. ⊎_elim (λ y. absurd (x.0 y.0)) (λ y. x.1 ∙ sym y.1) b)
+    a
 
 answer_same : (answer : Answer) (one other : Cause) → AnswerDecides answer one → AnswerDecides answer other → one ≡ other
 answer_same (Present bytes) one other a b = either_same (IsFirst bytes) one other a b

@@ -1,5 +1,5 @@
 -- What is found is sound, whatever was seen.
-use Rattle.std.proofs.Common.{◌≡◌, ℕ, ◌<◌, ◌≤◌, List, [], ◌∷◌, arith}
+use Rattle.std.proofs.Common.{ℕ, ◌≤◌, List, [], ◌∷◌, arith}
 use Rattle.cx_base.specs.declared.answers.Answer.{Answer}
 use Rattle.cx_base.specs.declared.answers.Answer.TheVariants.{Present, Absent, Folder, Unreadable, TooLarge}
 use Rattle.cx_base.specs.declared.answers.SeenEntry.{SeenEntry}

@@ -1,8 +1,8 @@
 -- What is found in a first text: the node at which its runs are stuck.
-use Rattle.std.specs.Prelude.{◌≡◌, ℕ, List, [], ◌∷◌, Option, Some, None, MatchOption}
+use Rattle.std.specs.Prelude.{◌≡◌, ℕ, List, [], ◌∷◌, Some}
 use Rattle.cx_base.specs.declared.finding.Finding.{Finding}
 use Rattle.cx_base.specs.declared.finding.Word.{Word}
-use Rattle.cx_base.specs.declared.finding.Word.TheVariants.{Text, Number}
+use Rattle.cx_base.specs.declared.finding.Word.TheVariants.{Text}
 use Rattle.cx_base.specs.declared.id.Id.{Id}
 use Rattle.cx_base.specs.declared.id.Id.TheVariants.{UninitVar, ZeroDiv, IntegerOverflow}
 use Rattle.cx_base.specs.declared.id.Severity.TheVariants.{Error}

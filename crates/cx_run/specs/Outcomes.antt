@@ -1,5 +1,5 @@
 -- What an answer comes to.
-use Rattle.std.specs.Prelude.{◌≡◌, ℕ, List, [], Option, MatchOption}
+use Rattle.std.specs.Prelude.{ℕ, List, Option, MatchOption}
 use Rattle.cx_base.specs.declared.answers.Answer.{Answer}
 use Rattle.cx_base.specs.declared.finding.Finding.{Finding}
 use Rattle.cx_run.specs.declared.deciding.Outcome.{Outcome}
@@ -20,7 +20,7 @@ SomeIfFirst bytes found =
 abbrev pub SomeIfRead : List Piece → Option (List Finding) → Type 0
 SomeIfRead pieces found =
     MatchOption found ((source : Source) → ¬ IsFirstText pieces source)
-        (λ findings. (source : Source) × IsFirstText pieces source × Finds source findings)
+    (λ findings. (source : Source) × IsFirstText pieces source × Finds source findings)
 
 -- an outcome is what the answer decides, and its unit is reported
 abbrev pub OutcomeIs : List ℕ → Answer → Outcome → Type 0

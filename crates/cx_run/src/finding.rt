@@ -48,7 +48,13 @@ fn finding_of(alloc: Global, cause: Undefined, node: Node) -> Result<Finding, No
 
 // The finding of the node at which the runs of a text are stuck.
 #[tactic(auto, using(crate::proofs::FindingLaws::finding_at))]
-fn stuck_findings(alloc: Global, text: &FirstText, statement: u32, node: u32, cause: Undefined) -> Result<List<Finding>, NoMemory>
+fn stuck_findings(
+    alloc: Global,
+    text: &FirstText,
+    statement: u32,
+    node: u32,
+    cause: Undefined,
+) -> Result<List<Finding>, NoMemory>
     requires { IsStuck (source_of text.now) statement node cause }
     ensures { IfOk result (FindsBy (source_of text.now) (RunEnd.Stuck statement node cause)) }
 {

@@ -7,5 +7,4 @@ ghost use Rattle.cx_run.specs.Reports.{IsReport};
 /// The words and what was seen have at most one report.
 pub fn one_report()
     ensures { (words : List (List ℕ)) (seen : List SeenEntry) (one other : Report) → IsReport words seen one → IsReport words seen other → one ≡ other }
-{
-}
+{}

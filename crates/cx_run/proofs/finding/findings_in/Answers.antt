@@ -1,4 +1,4 @@
-use Rattle.std.proofs.Common.{◌<◌, ◌≤◌, length, arith, ap}
+use Rattle.std.proofs.Common.{length, arith, ap}
 use Rattle.cx_run.proofs.FindingLaws.{few_pieces}
 use Rattle.cx_run.proofs.finding.findings_in.Goals as goal
 
