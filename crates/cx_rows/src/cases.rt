@@ -11,6 +11,15 @@ pub enum Content {
     Text(&'static [u8]),
     /// So many spaces.
     Blanks(usize),
+    /// A front, so many times a text, once a middle, as often a second text, and a back.
+    Nested {
+        front: &'static [u8],
+        opening: &'static [u8],
+        count: usize,
+        middle: &'static [u8],
+        closing: &'static [u8],
+        back: &'static [u8],
+    },
 }
 
 /// A sink to write to.
@@ -59,10 +68,32 @@ pub const PLAIN: Case = Case {
     seen: 1,
 };
 
+fn push_times(bytes: &mut Bytes, text: &[u8], count: usize) -> Result<(), Fail> {
+    for _ in 0..count {
+        bytes.push_all(text)?;
+    }
+    Ok(())
+}
+
 fn bytes_of(alloc: Global, content: Content) -> Result<Bytes, Fail> {
     match content {
         Content::Text(text) => Ok(Bytes::from_slice(alloc, text)?),
         Content::Blanks(count) => Ok(Bytes::from_vec(vec![in alloc; b' '; count]?)),
+        Content::Nested {
+            front,
+            opening,
+            count,
+            middle,
+            closing,
+            back,
+        } => {
+            let mut bytes = Bytes::from_slice(alloc, front)?;
+            push_times(&mut bytes, opening, count)?;
+            bytes.push_all(middle)?;
+            push_times(&mut bytes, closing, count)?;
+            bytes.push_all(back)?;
+            Ok(bytes)
+        }
     }
 }
 
@@ -107,10 +138,15 @@ fn sink_of(alloc: Global, taking: Taking) -> Result<MemorySink, Fail> {
     }
 }
 
-/// Runs a case, and compares what it gave.
-pub fn try_case(rt: &impl Abort, alloc: Global, case: &Case) -> Result<(), Fail> {
+/// Runs a case over these files, and compares what it gave.
+pub fn try_case(
+    rt: &impl Abort,
+    alloc: Global,
+    case: &Case,
+    files: &[(&'static str, Content)],
+) -> Result<(), Fail> {
     let name = case.name;
-    let files = files_of(alloc, case.files)?;
+    let files = files_of(alloc, files)?;
     let words = words_of(alloc, case.words)?;
     let mut out = sink_of(alloc, case.out)?;
     let mut err = sink_of(alloc, case.err)?;

@@ -4,4 +4,8 @@
 #[cfg(test)]
 mod cases;
 #[cfg(test)]
+mod first_texts;
+#[cfg(test)]
+mod outside;
+#[cfg(test)]
 mod tests;

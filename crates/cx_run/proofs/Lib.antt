@@ -1,2 +1,5 @@
 pub mod TookLaws
 pub mod UnitLaws
+pub mod FindingLaws
+pub mod SoundLaws
+pub mod ReportLaws

@@ -1,5 +1,6 @@
 pub mod Answers
 pub mod Asking
+pub mod First
 pub mod Outcomes
 pub mod Reports
 pub mod Texts

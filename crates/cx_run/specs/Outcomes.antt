@@ -1,15 +1,26 @@
 -- What an answer comes to.
-use Rattle.std.specs.Prelude.{◌≡◌, ℕ, List, [], Option, MatchOption}
+use Rattle.std.specs.Prelude.{ℕ, List, Option, MatchOption}
 use Rattle.cx_base.specs.declared.answers.Answer.{Answer}
 use Rattle.cx_base.specs.declared.finding.Finding.{Finding}
 use Rattle.cx_run.specs.declared.deciding.Outcome.{Outcome}
 use Rattle.cx_run.specs.declared.deciding.Outcome.TheVariants.{Unit as A_unit, NoInput as No_input, NotBuilt as Not_built}
 use Rattle.cx_run.specs.declared.report.Cause.TheVariants.{Done, NoInput, NotBuilt}
-use Rattle.cx_run.specs.Reports.{AnswerDecides, IsServed, IsUnitReport}
+use Rattle.cx_lex.specs.declared.token.Piece.{Piece}
+use Rattle.cx_first.specs.Grammar.{IsFirstText}
+use Rattle.cx_first.specs.Tree.{Source}
+use Rattle.cx_run.specs.First.{Finds, IsFirst, Means}
+use Rattle.cx_run.specs.Reports.{AnswerDecides, IsUnitReport}
 
--- the findings of a source, exactly where it is served
-abbrev pub SomeIfServed : List ℕ → Option (List Finding) → Type 0
-SomeIfServed bytes found = MatchOption found (¬ IsServed bytes) (λ findings. IsServed bytes × (findings ≡ []))
+-- the findings in the bytes, exactly where they are a first text
+abbrev pub SomeIfFirst : List ℕ → Option (List Finding) → Type 0
+SomeIfFirst bytes found =
+    MatchOption found (¬ IsFirst bytes) (λ findings. (source : Source) × Means bytes source × Finds source findings)
+
+-- the findings in the text that the pieces are, exactly where they are one
+abbrev pub SomeIfRead : List Piece → Option (List Finding) → Type 0
+SomeIfRead pieces found =
+    MatchOption found ((source : Source) → ¬ IsFirstText pieces source)
+    (λ findings. (source : Source) × IsFirstText pieces source × Finds source findings)
 
 -- an outcome is what the answer decides, and its unit is reported
 abbrev pub OutcomeIs : List ℕ → Answer → Outcome → Type 0

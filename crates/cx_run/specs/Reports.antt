@@ -14,7 +14,9 @@ use Rattle.cx_run.specs.declared.report.SinkName.TheVariants.{Out, Err}
 use Rattle.cx_run.specs.declared.report.ReportPiece.{ReportPiece}
 use Rattle.cx_run.specs.declared.report.UnitReport.{UnitReport}
 use Rattle.cx_run.specs.declared.report.Report.{Report}
+use Rattle.cx_first.specs.Tree.{Source}
 use Rattle.cx_run.specs.Asking.{source_of}
+use Rattle.cx_run.specs.First.{Finds, IsFirst, IsSound, Means}
 use Rattle.cx_run.specs.Texts.{finding_line}
 
 -- the line that tells which file is checked
@@ -33,7 +35,7 @@ read_fault path = record {
 
 -- the findings of a unit, by its answer
 abbrev pub AreFindings : List ℕ → Answer → List Finding → Type 0
-AreFindings path (Present bytes) findings = findings ≡ []
+AreFindings path (Present bytes) findings = (source : Source) × Means bytes source × Finds source findings
 AreFindings path Absent findings = ⊥
 AreFindings path (Folder entries) findings = ⊥
 AreFindings path Unreadable findings = findings ≡ read_fault path ∷ []
@@ -70,13 +72,9 @@ all_pieces units = flat_map unit_pieces units
 abbrev pub refusal : List ℕ → List ReportPiece
 refusal text = record { sink = Err; bytes = codes "cppcheck: error: " ++ text ++ codes "\n" } ∷ []
 
--- the bytes of a source are served today
-abbrev pub IsServed : List ℕ → Type 0
-IsServed bytes = bytes ≡ []
-
 -- what the answer of the one path decides
 abbrev pub AnswerDecides : Answer → Cause → Type 0
-AnswerDecides (Present bytes) cause = (IsServed bytes × (cause ≡ Done)) ⊎ (¬ IsServed bytes × (cause ≡ NotBuilt))
+AnswerDecides (Present bytes) cause = (IsFirst bytes × (cause ≡ Done)) ⊎ (¬ IsFirst bytes × (cause ≡ NotBuilt))
 AnswerDecides Absent cause = cause ≡ NoInput
 AnswerDecides (Folder entries) cause = cause ≡ NotBuilt
 AnswerDecides Unreadable cause = cause ≡ Done
@@ -111,3 +109,16 @@ status_of NoInput = 1
 status_of NotBuilt = 1
 status_of (WriteFault sink) = 3
 status_of NoMemory = 4
+
+-- what is found in an answer is sound
+abbrev pub AnswerSound : Answer → Type 0
+AnswerSound (Present bytes) = IsSound bytes
+AnswerSound Absent = Unit {0}
+AnswerSound (Folder entries) = Unit {0}
+AnswerSound Unreadable = Unit {0}
+AnswerSound TooLarge = Unit {0}
+
+-- what is found in each file that was seen is sound
+abbrev pub AllSound : List SeenEntry → Type 0
+AllSound [] = Unit {0}
+AllSound (entry ∷ seen) = AnswerSound entry.answer × AllSound seen

@@ -4,7 +4,7 @@ use Rattle.cx_base.specs.declared.finding.Finding.{Finding}
 use Rattle.cx_base.specs.declared.finding.Word.{Word}
 use Rattle.cx_base.specs.declared.finding.Word.TheVariants.{Text, Number}
 use Rattle.cx_base.specs.declared.id.Id.{Id}
-use Rattle.cx_base.specs.declared.id.Id.TheVariants.{ReadFault}
+use Rattle.cx_base.specs.declared.id.Id.TheVariants.{IntegerOverflow, ReadFault, UninitVar, ZeroDiv}
 use Rattle.cx_base.specs.declared.place.Place.{Place}
 use Rattle.cx_base.specs.Findings.{id_name, severity_name}
 
@@ -20,6 +20,9 @@ first_word (Number number ∷ words) = []
 
 -- the message of a finding, by its kind and its words; of the other kinds there is none yet
 abbrev pub message : Id → List Word → List ℕ
+message UninitVar words = codes "Uninitialized variable: " ++ first_word words
+message ZeroDiv words = codes "Division by zero."
+message IntegerOverflow words = codes "Signed integer overflow for expression '" ++ first_word words ++ codes "'."
 message ReadFault words = codes "File could not be read: " ++ first_word words
 message other words = []
 

@@ -1,8 +1,10 @@
 //! What the answers decide: units to tell of, or a refusal.
-ghost use Rattle.std.specs.Prelude.{◌≡◌, [], ◌∷◌, IfOk};
+ghost use Rattle.std.specs.Prelude.{◌≡◌, ◌<◌, [], ◌∷◌, length, IfOk};
 ghost use Rattle.cx_run.specs.Reports.{progress_line, read_fault};
-ghost use Rattle.cx_run.specs.Outcomes.{OutcomeIs, SomeIfServed};
+ghost use Rattle.cx_run.specs.Answers.{IsBelow};
+ghost use Rattle.cx_run.specs.Outcomes.{OutcomeIs};
 
+use crate::finding::findings_in;
 use crate::report::UnitReport;
 use cx_base::{
     Answer, Bytes, Finding, Id, List, NoMemory, Path, Place, SeenEntry, Severity, Text, Word,
@@ -49,16 +51,6 @@ fn read_fault(alloc: Global, path: &Path) -> Result<Finding, NoMemory>
     })
 }
 
-// The findings of a source with these bytes, where it is served.
-fn findings_in(alloc: Global, bytes: &Bytes) -> Result<Option<List<Finding>>, NoMemory>
-    ensures { IfOk result (SomeIfServed bytes.now) }
-{
-    if bytes.len() == 0 {
-        return Ok(Some(List::new(alloc)));
-    }
-    Ok(None)
-}
-
 fn unit_report(alloc: Global, path: &Path, findings: List<Finding>) -> Result<UnitReport, NoMemory>
     ensures { IfOk result (λ unit. unit ≡ record { files = path.now ∷ []; progress = progress_line path.now ∷ []; findings = findings }) }
 {
@@ -76,6 +68,7 @@ fn unit_report(alloc: Global, path: &Path, findings: List<Finding>) -> Result<Un
 }
 
 fn outcome_of_bytes(alloc: Global, path: &Path, bytes: &Bytes) -> Result<Outcome, NoMemory>
+    requires { length bytes.now < 4294967295 }
     ensures { IfOk result (OutcomeIs path.now (Answer.Present bytes.now)) }
 {
     match findings_in(alloc, bytes)? {
@@ -99,6 +92,7 @@ fn outcome_of_fault(alloc: Global, path: &Path) -> Result<Outcome, NoMemory>
 
 /// What an answer comes to.
 pub(crate) fn outcome_of(alloc: Global, entry: &SeenEntry) -> Result<Outcome, NoMemory>
+    requires { IsBelow 4294967295 entry.now.answer }
     ensures { IfOk result (OutcomeIs entry.now.path entry.now.answer) }
 {
     match &entry.answer {

@@ -1,5 +1,6 @@
 //! The pieces of a report.
 ghost use Rattle.std.specs.Prelude.{◌≡◌, ◌++◌, [], ◌∷◌, map, codes, IfOk, OnOk};
+ghost use Rattle.cx_run.specs.Answers.{AllBelow, IsBelow};
 ghost use Rattle.cx_run.specs.Asking.{IsWholeAsking};
 ghost use Rattle.cx_run.specs.Reports.{HasPieces, IsReport, SeenDecides, finding_piece, progress_piece, refusal, unit_pieces};
 
@@ -104,6 +105,7 @@ fn not_built(alloc: Global) -> Result<Report, NoMemory>
 
 #[tactic(auto, using(crate::proofs::UnitLaws::one_unit))]
 fn report_of_entry(alloc: Global, entry: &SeenEntry) -> Result<Report, NoMemory>
+    requires { IsBelow 4294967295 entry.now.answer }
     ensures { IfOk result (λ report. SeenDecides (entry.now ∷ []) report.cause × HasPieces report.cause (entry.now ∷ []) report.pieces) }
 {
     match outcome_of(alloc, entry)? {
@@ -121,7 +123,8 @@ fn report_of_entry(alloc: Global, entry: &SeenEntry) -> Result<Report, NoMemory>
 
 /// The written report of the words and of all that they asked.
 pub(crate) fn report(alloc: Global, words: &[Path], seen: &[SeenEntry]) -> Result<Report, NoMemory>
-    requires { IsWholeAsking words.now seen.now }
+    requires asked { IsWholeAsking words.now seen.now }
+    requires below { AllBelow 4294967295 seen.now }
     ensures { IfOk result (IsReport words.now seen.now) }
 {
     match (source_of(words), seen) {

@@ -1,8 +1,8 @@
 //! The top call.
-ghost use Rattle.std.specs.Prelude.{◌≡◌, ◌≢◌, ◌⊎◌, [], IsTrue};
-ghost use Rattle.cx_run.specs.Answers.{AreAnswers};
+ghost use Rattle.std.specs.Prelude.{◌≡◌, ◌<◌, ◌≢◌, ◌⊎◌, [], IsTrue};
+ghost use Rattle.cx_run.specs.Answers.{AllBelow, AreAnswers};
 ghost use Rattle.cx_run.specs.Asking.{IsWholeAsking};
-ghost use Rattle.cx_run.specs.Reports.{status_of};
+ghost use Rattle.cx_run.specs.Reports.{AllSound, status_of};
 ghost use Rattle.cx_run.specs.Words.{are_in_bounds};
 ghost use Rattle.cx_run.specs.Written.{EndsBy, FaultHasCause, Took};
 
@@ -34,7 +34,8 @@ fn tell<O: Sink, E: Sink>(
     out: &mut O,
     err: &mut E,
 ) -> Cause
-    requires { IsWholeAsking words.now seen.now }
+    requires asked { IsWholeAsking words.now seen.now }
+    requires below { AllBelow 4294967295 seen.now }
     ensures written { EndsBy words.now seen.now (record { out = O.holds out.old; err = E.holds err.old }) (record { out = O.holds out.new; err = E.holds err.new }) result }
     ensures faults { FaultHasCause (record { out = O.faults out.old; err = E.faults err.old }) (record { out = O.faults out.new; err = E.faults err.new }) result }
 {
@@ -65,6 +66,7 @@ fn status_of(cause: Cause) -> u8
 }
 
 // `run`, with the most bytes to read of a file.
+#[tactic(auto, using(crate::proofs::SoundLaws::all_sound, crate::proofs::SoundLaws::all_below))]
 fn run_with<F: Files, O: Sink, E: Sink>(
     alloc: Global,
     words: &[Path],
@@ -73,6 +75,7 @@ fn run_with<F: Files, O: Sink, E: Sink>(
     out: &mut O,
     err: &mut E,
 ) -> Ended
+    requires { limit < 4294967296 }
     ensures asked { result.cause ≢ Cause.NoMemory → IsWholeAsking words.now result.seen }
     ensures answers { result.cause ≢ Cause.NoMemory → AreAnswers limit
         (record { told = F.told files.old; faults = F.faults files.old })
@@ -87,6 +90,7 @@ fn run_with<F: Files, O: Sink, E: Sink>(
         (record { out = O.faults out.old; err = E.faults err.old })
         (record { out = O.faults out.new; err = E.faults err.new }) result.cause }
     ensures status { result.status ≡ status_of result.cause }
+    ensures sound { AllSound result.seen }
 {
     match ask(alloc, words, limit, files) {
         Ok(seen) => {
@@ -117,6 +121,9 @@ fn run_with<F: Files, O: Sink, E: Sink>(
 /// * **nothing**: where `seen` is no whole asking, nothing was written.
 /// * **faults**: a `WriteFault` comes only where the count of that sink rose.
 /// * **status**: 0, 1, 3 or 4, by the cause.
+/// * **sound**: for each finding of a division by zero, an overflow or an uninitialized read in a
+///   file of `seen`: no run of the text that the file is makes the value of the finding's node, and
+///   a run comes to its statement.
 pub fn run<F: Files, O: Sink, E: Sink>(
     alloc: Global,
     words: &[Path],
@@ -139,6 +146,7 @@ pub fn run<F: Files, O: Sink, E: Sink>(
         (record { out = O.faults out.old; err = E.faults err.old })
         (record { out = O.faults out.new; err = E.faults err.new }) result.cause }
     ensures status { result.status ≡ status_of result.cause }
+    ensures sound { AllSound result.seen }
 {
     run_with(alloc, words, MOST_READ, files, out, err)
 }

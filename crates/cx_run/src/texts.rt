@@ -50,15 +50,31 @@ fn push_first_word(line: &mut Bytes, words: &[Word]) -> Result<(), NoMemory>
     }
 }
 
+// A front and the first word.
+fn push_about(line: &mut Bytes, front: &[u8], words: &[Word]) -> Result<(), NoMemory>
+    ensures { OnOk result (line.new ≡ line.old ++ (front.now ++ first_word words.now)) }
+{
+    line.push_all(front)?;
+    push_first_word(line, words)?;
+    Ok(())
+}
+
+fn push_overflow(line: &mut Bytes, words: &[Word]) -> Result<(), NoMemory>
+    ensures { OnOk result (line.new ≡ line.old ++ (codes "Signed integer overflow for expression '" ++ first_word words.now ++ codes "'.")) }
+{
+    push_about(line, b"Signed integer overflow for expression '", words)?;
+    line.push_all(b"'.")?;
+    Ok(())
+}
+
 fn push_message(line: &mut Bytes, id: Id, words: &[Word]) -> Result<(), NoMemory>
     ensures { OnOk result (line.new ≡ line.old ++ message id words.now) }
 {
     match id {
-        Id::ReadFault => {
-            line.push_all(b"File could not be read: ")?;
-            push_first_word(line, words)?;
-            Ok(())
-        }
+        Id::UninitVar => push_about(line, b"Uninitialized variable: ", words),
+        Id::ZeroDiv => line.push_all(b"Division by zero."),
+        Id::IntegerOverflow => push_overflow(line, words),
+        Id::ReadFault => push_about(line, b"File could not be read: ", words),
         _ => Ok(()),
     }
 }

@@ -1,10 +1,13 @@
-use Rattle.std.proofs.Common.{ap, ◌++◌, ◌∙◌, append_assoc, codes, List, ℕ}
-use Rattle.cx_run.specs.Texts.{first_word}
 use Rattle.cx_run.proofs.texts.push_message.Goals as goal
 
-pub returns-in_ok-push_first_word-in-ReadFault : goal.returns-in_ok-push_first_word-in-ReadFault
-returns-in_ok-push_first_word-in-ReadFault c =
-    rw c.in-ReadFault.is
-    (c.in_ok-push_first_word-in-ReadFault.ensures
-    ∙ ap (λ (l : List ℕ). l ++ first_word c.args.words.now) c.in_ok-push_all-in-ReadFault.ensures.ok
-    ∙ append_assoc c.args.line.now (codes "File could not be read: ") (first_word c.args.words.now))
+pub returns-in-UninitVar : goal.returns-in-UninitVar
+returns-in-UninitVar c = rw c.in-UninitVar.is c.push_about.ensures
+
+pub returns-in-ZeroDiv : goal.returns-in-ZeroDiv
+returns-in-ZeroDiv c = rw c.in-ZeroDiv.is c.push_all.ensures.ok
+
+pub returns-in-IntegerOverflow : goal.returns-in-IntegerOverflow
+returns-in-IntegerOverflow c = rw c.in-IntegerOverflow.is c.push_overflow.ensures
+
+pub returns-in-ReadFault : goal.returns-in-ReadFault
+returns-in-ReadFault c = rw c.in-ReadFault.is c.push_about-in-ReadFault.ensures

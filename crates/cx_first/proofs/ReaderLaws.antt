@@ -1,0 +1,168 @@
+-- A text's head and body taken apart and put together, as the reader does.
+use Rattle.std.proofs.Common.{◌≡◌, ℕ, true, false, List, [], ◌∷◌, ◌++◌, map, Option, Some, None, MatchOption, IfNone, refl, sym, ◌∙◌, ap, append_assoc}
+use Rattle.std.proofs.lemmas.List.{map-append}
+use Rattle.cx_lex.specs.declared.token.Piece.{Piece}
+use Rattle.cx_first.specs.declared.tree.Statement.{Statement}
+use Rattle.cx_first.specs.declared.signs.Sign.{Sign}
+use Rattle.cx_first.specs.declared.signs.Sign.TheVariants as sign_is
+use Rattle.cx_first.specs.declared.statements.Awaits.{Awaits}
+use Rattle.cx_first.specs.declared.statements.Awaits.TheVariants as awaits
+use Rattle.cx_first.specs.Tree.{Form, form_of, Source}
+use Rattle.cx_first.specs.Names.{Names}
+use Rattle.cx_first.specs.Signs.{sign}
+use Rattle.cx_first.specs.Grammar.{assignment, a_return, Reading, a_declaration, a_statement, Body, closed, more, ReadsText, nothing, a_function}
+use Rattle.cx_first.specs.Descent.{SignAt, is_end, is_closed, HeaderAt}
+
+-- the same sign at the same place has the same behind it
+pub sign_along : (wanted : Sign) (pieces others rest behind : List Piece) → SignAt wanted pieces rest → SignAt wanted others behind → pieces ≡ others → rest ≡ behind
+sign_along wanted pieces others rest behind a b e =
+    let k : a.piece ∷ rest ≡ b.piece ∷ behind = sym a.whole ∙ (e ∙ b.whole) in cc
+
+-- the end of a body
+end_is : (s : Sign) → is_end s ≡ true → s ≡ sign_is.End
+end_is sign_is.End e = refl
+end_is sign_is.Comma e = absurd cc
+end_is sign_is.Semicolon e = absurd cc
+end_is sign_is.Plus e = absurd cc
+end_is sign_is.Minus e = absurd cc
+end_is sign_is.Star e = absurd cc
+end_is sign_is.Slash e = absurd cc
+end_is sign_is.Int e = absurd cc
+end_is sign_is.Void e = absurd cc
+end_is sign_is.Return e = absurd cc
+end_is sign_is.Name e = absurd cc
+end_is (sign_is.Number n) e = absurd cc
+end_is sign_is.Open e = absurd cc
+end_is sign_is.Close e = absurd cc
+end_is sign_is.Begin e = absurd cc
+end_is sign_is.Equals e = absurd cc
+end_is sign_is.Foreign e = absurd cc
+
+pub body_ends : (limit : ℕ) (function : List ℕ) (here : Awaits) (names : Names) (ts : List Piece) → is_closed here ts ≡ true
+    → Body limit function here names ts [] names
+unfolding is_closed
+body_ends limit function awaits.Statement names (p ∷ []) e = closed (end_is (sign p) e)
+body_ends limit function awaits.Statement names [] e = absurd cc
+body_ends limit function awaits.Statement names (p ∷ q ∷ ts) e = absurd cc
+body_ends limit function awaits.Declarator names ts e = absurd cc
+
+end_reads : {limit : ℕ} {function : List ℕ} {names then : Names} {p : Piece} {ts rest : List Piece} {form : Form} {next : Awaits}
+    → sign p ≡ sign_is.End → Reading limit function names awaits.Statement (p ∷ ts) form next then rest → ⊥
+end_reads e (a_declaration f d g) = absurd cc
+end_reads e (a_statement (assignment f g h x)) = absurd cc
+end_reads e (a_statement (a_return f x)) = absurd cc
+
+pub closed_is : (p : Piece) → sign p ≡ sign_is.End → is_closed awaits.Statement (p ∷ []) ≡ true
+unfolding is_closed
+closed_is p e = ap is_end e
+
+pub closed_parts : {limit : ℕ} {function : List ℕ} {names all : Names} {p : Piece} {forms : List Form} → sign p ≡ sign_is.End
+    → Body limit function awaits.Statement names (p ∷ []) forms all → (forms ≡ []) × (all ≡ names)
+closed_parts e (closed f) = (refl, refl)
+closed_parts e (more r b) = absurd (end_reads e r)
+
+pub body_ended : (limit : ℕ) (function : List ℕ) (here : Awaits) (names all : Names) (ts : List Piece) (forms : List Form) → is_closed here ts ≡ true
+    → Body limit function here names ts forms all → (forms ≡ []) × (all ≡ names)
+unfolding is_closed
+body_ended limit function awaits.Statement names all (p ∷ []) forms e b = closed_parts (end_is (sign p) e) b
+body_ended limit function awaits.Statement names all [] forms e b = absurd cc
+body_ended limit function awaits.Statement names all (p ∷ q ∷ ts) forms e b = absurd cc
+body_ended limit function awaits.Declarator names all ts forms e b = absurd cc
+
+-- a body that goes on
+pub record GoesOn (limit : ℕ) (function : List ℕ) (here : Awaits) (names : Names) (ts : List Piece) (forms : List Form) (all : Names) : Type 0 where
+  pub form : Form
+  pub others : List Form
+  pub next : Awaits
+  pub then : Names
+  pub rest : List Piece
+  pub forms_are : forms ≡ form ∷ others
+  pub reading : Reading limit function names here ts form next then rest
+  pub body : Body limit function next then rest others all
+
+pub body_parts : {limit : ℕ} {function : List ℕ} {here : Awaits} {names all : Names} {ts : List Piece} {forms : List Form} → is_closed here ts ≡ false
+    → Body limit function here names ts forms all → GoesOn limit function here names ts forms all
+body_parts e (closed {p = p} f) = absurd (let k : is_closed awaits.Statement (p ∷ []) ≡ true = closed_is p f in cc)
+body_parts e (more {next = next} {then = then} {rest = rest} {form = form} {forms = others} r b) = record {
+  form = form;
+  others = others;
+  next = next;
+  then = then;
+  rest = rest;
+  forms_are = refl;
+  reading = r;
+  body = b;
+}
+
+pub forms_on : (statements new : List Statement) (form : Statement) (forms : List Form) → new ≡ statements ++ form ∷ []
+    → map form_of new ++ forms ≡ map form_of statements ++ form_of form ∷ forms
+forms_on statements new form forms e =
+    rw (e, map-append form_of statements (form ∷ [])) append_assoc_one
+  where
+    append_assoc_one : (map form_of statements ++ form_of form ∷ []) ++ forms ≡ map form_of statements ++ form_of form ∷ forms
+    append_assoc_one = append_assoc (map form_of statements) (form_of form ∷ []) forms
+
+pub none_of : {X : Type 0} (r : Option X) (P R : Type 0) (Q : X → Type 0) → MatchOption r P Q → (P → R) → IfNone r R
+none_of None P R Q m f = f m
+none_of (Some x) P R Q m f = tt
+
+-- a text and its head
+pub text_made : (limit : ℕ) (pieces rest : List Piece) (name : Piece) (forms : List Form) (names : Names) → HeaderAt pieces name rest
+    → Body limit name.token.text awaits.Statement [] rest forms names → ReadsText limit pieces (record { names = names; statements = forms })
+text_made limit pieces rest name forms names h b =
+    let o = h.opening in
+    let whole : pieces ≡ h.int.piece ∷ name ∷ o.opening.piece ∷ o.void.piece ∷ o.closing.piece ∷ o.beginning.piece ∷ rest =
+    h.int.whole ∙ ap (λ x. h.int.piece ∷ x) (h.named
+    ∙ ap (λ x. name ∷ x) (o.opening.whole
+    ∙ ap (λ x. o.opening.piece ∷ x) (o.void.whole
+    ∙ ap (λ x. o.void.piece ∷ x) (o.closing.whole
+    ∙ ap (λ x. o.closing.piece ∷ x) o.beginning.whole)))) in
+    rw whole (a_function h.int.signed h.signed o.opening.signed o.void.signed o.closing.signed o.beginning.signed b)
+
+pub record Headed (limit : ℕ) (pieces : List Piece) (source : Source) : Type 0 where
+  pub name : Piece
+  pub rest : List Piece
+  pub header : HeaderAt pieces name rest
+  pub body : Body limit name.token.text awaits.Statement [] rest source.statements source.names
+
+pub text_parts : {limit : ℕ} {pieces : List Piece} {source : Source} → (pieces ≡ [] → ⊥) → ReadsText limit pieces source → Headed limit pieces source
+text_parts n nothing = absurd (n refl)
+text_parts n (a_function {int = int} {name = name} {opening = opening} {void = void} {closing = closing} {beginning = beginning} {rest = rest} i f o v c b body) = record {
+  name = name;
+  rest = rest;
+  header = record {
+    behind_int = name ∷ opening ∷ void ∷ closing ∷ beginning ∷ rest;
+    behind_name = opening ∷ void ∷ closing ∷ beginning ∷ rest;
+    int = record { piece = int; whole = refl; signed = i };
+    named = refl;
+    signed = f;
+    opening = record {
+      behind_open = void ∷ closing ∷ beginning ∷ rest;
+      behind_void = closing ∷ beginning ∷ rest;
+      behind_close = beginning ∷ rest;
+      opening = record { piece = opening; whole = refl; signed = o };
+      void = record { piece = void; whole = refl; signed = v };
+      closing = record { piece = closing; whole = refl; signed = c };
+      beginning = record { piece = beginning; whole = refl; signed = b };
+    };
+  };
+  body = body;
+}
+
+pub empty_text : {limit : ℕ} {pieces : List Piece} {source : Source} → pieces ≡ [] → ReadsText limit pieces source
+    → (source.names ≡ []) × (source.statements ≡ [])
+empty_text e nothing = (refl, refl)
+empty_text e (a_function i f o v c b body) = absurd cc
+
+-- one text has one head
+pub header_same : (pieces rest behind : List Piece) (name other : Piece) → HeaderAt pieces name rest → HeaderAt pieces other behind
+    → (name ≡ other) × (rest ≡ behind)
+header_same pieces rest behind name other h k =
+    let a = sign_along _ _ _ _ _ h.int k.int refl in
+    let named : name ∷ h.behind_name ≡ other ∷ k.behind_name = sym h.named ∙ (a ∙ k.named) in
+    let b : h.behind_name ≡ k.behind_name = cc in
+    let c = sign_along _ _ _ _ _ h.opening.opening k.opening.opening b in
+    let d = sign_along _ _ _ _ _ h.opening.void k.opening.void c in
+    let e = sign_along _ _ _ _ _ h.opening.closing k.opening.closing d in
+    let f = sign_along _ _ _ _ _ h.opening.beginning k.opening.beginning e in
+    ((let g : name ≡ other = cc in g), f)

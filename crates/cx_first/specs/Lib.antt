@@ -1,0 +1,10 @@
+pub mod Tree
+pub mod Evaluation
+pub mod Counting
+pub mod Runs
+pub mod Steps
+pub mod Signs
+pub mod Names
+pub mod Grammar
+pub mod Descent
+pub mod Nodes

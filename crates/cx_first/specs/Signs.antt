@@ -1,0 +1,83 @@
+-- What a piece is to the grammar of a first text (C11 6.4).
+use Rattle.std.specs.Prelude.{ℕ, Bool, false, not, ◌&&◌, ◌==◌, nat_le, nat_lt, length, if◌then◌else◌, List, [], ◌∷◌, bytes_eq, codes}
+use Rattle.std.specs.Borrow.{Bor}
+use Rattle.std.specs.List.{list_all, list_any}
+use Rattle.cx_lex.specs.declared.token.Kind.{Kind}
+use Rattle.cx_lex.specs.declared.token.Kind.TheVariants as kind
+use Rattle.cx_lex.specs.declared.token.Piece.{Piece}
+use Rattle.cx_lex.specs.Characters.{is_digit}
+use Rattle.cx_lex.specs.Forms.{number_of, greatest}
+use Rattle.cx_first.specs.declared.signs.Sign.{Sign}
+use Rattle.cx_first.specs.declared.signs.Sign.TheVariants as sign_is
+
+abbrev pub same : List ℕ → List ℕ → Bool
+same word other = bytes_eq word other
+
+-- a word among the references to words
+abbrev pub is_one_of : List ℕ → List (Bor (List ℕ)) → Bool
+is_one_of word table = list_any (λ other. same word other.now) table
+
+-- C11 6.4.1
+abbrev pub keywords : List (List ℕ)
+keywords =
+    codes "auto" ∷ codes "break" ∷ codes "case" ∷ codes "char" ∷ codes "const" ∷ codes "continue" ∷ codes "default"
+    ∷ codes "do" ∷ codes "double" ∷ codes "else" ∷ codes "enum" ∷ codes "extern" ∷ codes "float" ∷ codes "for"
+    ∷ codes "goto" ∷ codes "if" ∷ codes "inline" ∷ codes "int" ∷ codes "long" ∷ codes "register" ∷ codes "restrict"
+    ∷ codes "return" ∷ codes "short" ∷ codes "signed" ∷ codes "sizeof" ∷ codes "static" ∷ codes "struct"
+    ∷ codes "switch" ∷ codes "typedef" ∷ codes "union" ∷ codes "unsigned" ∷ codes "void" ∷ codes "volatile"
+    ∷ codes "while" ∷ codes "_Alignas" ∷ codes "_Alignof" ∷ codes "_Atomic" ∷ codes "_Bool" ∷ codes "_Complex"
+    ∷ codes "_Generic" ∷ codes "_Imaginary" ∷ codes "_Noreturn" ∷ codes "_Static_assert" ∷ codes "_Thread_local" ∷ []
+
+unfoldable pub is_keyword : List ℕ → Bool
+is_keyword word = list_any (same word) keywords
+
+unfoldable pub word : List ℕ → Sign
+word text =
+    if same text (codes "int") then sign_is.Int
+    else if same text (codes "void") then sign_is.Void
+    else if same text (codes "return") then sign_is.Return
+    else if is_keyword text then sign_is.Foreign
+    else sign_is.Name
+
+-- the punctuators ( ) { } , ; = + - * / by their codes
+abbrev pub mark_of : ℕ → Sign
+mark_of byte =
+    if byte == 40 then sign_is.Open
+    else if byte == 41 then sign_is.Close
+    else if byte == 123 then sign_is.Begin
+    else if byte == 125 then sign_is.End
+    else if byte == 44 then sign_is.Comma
+    else if byte == 59 then sign_is.Semicolon
+    else if byte == 61 then sign_is.Equals
+    else if byte == 43 then sign_is.Plus
+    else if byte == 45 then sign_is.Minus
+    else if byte == 42 then sign_is.Star
+    else if byte == 47 then sign_is.Slash
+    else sign_is.Foreign
+
+abbrev pub mark : List ℕ → Sign
+mark (byte ∷ []) = mark_of byte
+mark text = sign_is.Foreign
+
+-- whether a number is a decimal constant that is a value of type int: digits, the first of which is 0 only where it is
+-- alone (C11 6.4.4.1)
+unfoldable pub is_int_constant : List ℕ → Bool
+is_int_constant [] = false
+is_int_constant (byte ∷ bytes) =
+    list_all is_digit (byte ∷ bytes) && not (byte == 48 && nat_lt 0 (length bytes)) && nat_le (number_of (byte ∷ bytes)) greatest
+
+unfoldable pub number : List ℕ → Sign
+number text = if is_int_constant text then sign_is.Number (number_of text) else sign_is.Foreign
+
+abbrev pub sign_of : Kind → List ℕ → Sign
+sign_of kind.Name text = word text
+sign_of kind.Number text = number text
+sign_of kind.Punct text = mark text
+sign_of kind.Char text = sign_is.Foreign
+sign_of kind.String text = sign_is.Foreign
+sign_of kind.Unclosed text = sign_is.Foreign
+sign_of kind.Header text = sign_is.Foreign
+sign_of kind.Other text = sign_is.Foreign
+
+unfoldable pub sign : Piece → Sign
+sign piece = sign_of piece.token.kind piece.token.text

@@ -1,0 +1,209 @@
+//! Expressions from pieces, by recursive descent. An expression is at most as deep as it has
+//! pieces, and these are counted before the descent.
+ghost use Rattle.std.specs.Prelude.{◌≡◌, ◌≤◌, ◌<◌, ℕ, List as Items, [], ◌∷◌, length, IfOk, IfSome, IfNone, IsSomeAnd, None, Some, MatchOption};
+ghost use Rattle.cx_lex.specs.declared.token.Piece.{Piece};
+ghost use Rattle.cx_first.specs.Tree as tree;
+ghost use Rattle.cx_first.specs.Grammar.{Reads, Chains, operator_of, level_of};
+ghost use Rattle.cx_first.specs.Signs.{sign};
+ghost use Rattle.cx_first.specs.Descent.{Stops, OperatorAt, NoOperator, SignAt, NoSign};
+
+use crate::names::Names;
+use crate::signs::{Sign, behind_sign, first, sign_of};
+use crate::tree::{Expr, Operator};
+use cx_base::NoMemory;
+use cx_lex::Piece;
+use sqlite_items::Boxed;
+use std::alloc::Global;
+
+/// The operator that a sign is between two operands.
+#[tactic(auto, unfolding(crate::specs::Grammar::operator_of))]
+fn operator_of(sign: Sign) -> Option<Operator>
+    ensures { result ≡ operator_of sign }
+{
+    match sign {
+        Sign::Plus => Some(Operator::Add),
+        Sign::Minus => Some(Operator::Subtract),
+        Sign::Star => Some(Operator::Multiply),
+        Sign::Slash => Some(Operator::Divide),
+        _ => None,
+    }
+}
+
+/// How loosely an operator binds.
+#[tactic(auto, unfolding(crate::specs::Grammar::level_of))]
+fn level_of(operator: Operator) -> u8
+    ensures { result ≡ level_of operator }
+{
+    match operator {
+        Operator::Multiply | Operator::Divide => 1,
+        Operator::Add | Operator::Subtract => 2,
+    }
+}
+
+/// The operator of a level at the front of pieces, its piece, and those behind it.
+fn operator_at<'a>(level: u8, pieces: &'a [Piece]) -> Option<(Operator, &'a Piece, &'a [Piece])>
+    ensures none { IfNone result (NoOperator level pieces.now) }
+    ensures some { IfSome result (λ x. OperatorAt level pieces.now x.0 x.1.now x.2.now) }
+{
+    let (piece, rest) = first(pieces)?;
+    let operator = operator_of(sign_of(piece))?;
+    if level_of(operator) == level {
+        Some((operator, piece, rest))
+    } else {
+        None
+    }
+}
+
+/// A name's variable.
+#[tactic(auto, using(crate::proofs::TreeLaws::trees, crate::proofs::DescentLaws::reads_variable))]
+fn variable<'a>(names: &Names, piece: &'a Piece, rest: &'a [Piece]) -> Option<(Expr, &'a [Piece])>
+    requires few { length names.now ≤ 4294967296 }
+    requires name { sign piece.now ≡ Sign.Name }
+    ensures found { IfSome result (λ x. Reads names.now 0 (piece.now ∷ rest.now) (tree.tree_of x.0) x.1.now) }
+    ensures only { (t : tree.Tree) (behind : Items Piece) → Reads names.now 0 (piece.now ∷ rest.now) t behind → IsSomeAnd result (λ x. (tree.tree_of x.0 ≡ t) × (x.1.now ≡ behind)) }
+    ensures shorter { IfSome result (λ x. length x.1.now ≤ length rest.now) }
+{
+    let variable = names.find(piece.token.text.as_slice())?;
+    let at = piece.token.place;
+    Some((Expr::Variable { variable, at }, rest))
+}
+
+/// An operand: a number, a name, a negation or an expression in brackets.
+#[cycle(expression)]
+#[tactic(auto, using(crate::proofs::TreeLaws::trees))]
+fn operand<'a>(
+    alloc: Global,
+    names: &Names,
+    pieces: &'a [Piece],
+) -> Result<Option<(Expr, &'a [Piece])>, NoMemory>
+    requires { length names.now ≤ 4294967296 }
+    ensures found { IfOk result (λ f. IfSome f (λ x. Reads names.now 0 pieces.now (tree.tree_of x.0) x.1.now)) }
+    ensures only { (t : tree.Tree) (rest : Items Piece) → Reads names.now 0 pieces.now t rest → IfOk result (λ f. IsSomeAnd f (λ x. (tree.tree_of x.0 ≡ t) × (x.1.now ≡ rest))) }
+    ensures shorter { IfOk result (λ f. IfSome f (λ x. length x.1.now < length pieces.now)) }
+{
+    let Some((piece, rest)) = first(pieces) else {
+        return Ok(None);
+    };
+    match sign_of(piece) {
+        Sign::Number(value) => {
+            let at = piece.token.place;
+            Ok(Some((Expr::Number { value, at }, rest)))
+        }
+        Sign::Name => Ok(variable(names, piece, rest)),
+        Sign::Minus => negation(alloc, names, piece, rest),
+        Sign::Open => bracketed(alloc, names, piece, rest),
+        _ => Ok(None),
+    }
+}
+
+/// A negation, behind its `-`.
+#[cycle(expression)]
+#[tactic(auto, using(crate::proofs::TreeLaws::trees))]
+fn negation<'a>(
+    alloc: Global,
+    names: &Names,
+    piece: &'a Piece,
+    pieces: &'a [Piece],
+) -> Result<Option<(Expr, &'a [Piece])>, NoMemory>
+    requires few { length names.now ≤ 4294967296 }
+    requires minus { sign piece.now ≡ Sign.Minus }
+    ensures found { IfOk result (λ f. IfSome f (λ x. Reads names.now 0 (piece.now ∷ pieces.now) (tree.tree_of x.0) x.1.now)) }
+    ensures only { (t : tree.Tree) (rest : Items Piece) → Reads names.now 0 (piece.now ∷ pieces.now) t rest → IfOk result (λ f. IsSomeAnd f (λ x. (tree.tree_of x.0 ≡ t) × (x.1.now ≡ rest))) }
+    ensures shorter { IfOk result (λ f. IfSome f (λ x. length x.1.now < length pieces.now)) }
+{
+    match operand(alloc, names, pieces)? {
+        None => Ok(None),
+        Some((inner, rest)) => {
+            let at = piece.token.place;
+            let operand = Boxed::new(alloc, inner)?;
+            Ok(Some((Expr::Negation { at, operand }, rest)))
+        }
+    }
+}
+
+/// An expression in brackets, behind the first of them.
+#[cycle(expression)]
+#[tactic(auto, using(crate::proofs::TreeLaws::trees))]
+fn bracketed<'a>(
+    alloc: Global,
+    names: &Names,
+    piece: &'a Piece,
+    pieces: &'a [Piece],
+) -> Result<Option<(Expr, &'a [Piece])>, NoMemory>
+    requires few { length names.now ≤ 4294967296 }
+    requires open { sign piece.now ≡ Sign.Open }
+    ensures found { IfOk result (λ f. IfSome f (λ x. Reads names.now 0 (piece.now ∷ pieces.now) (tree.tree_of x.0) x.1.now)) }
+    ensures only { (t : tree.Tree) (rest : Items Piece) → Reads names.now 0 (piece.now ∷ pieces.now) t rest → IfOk result (λ f. IsSomeAnd f (λ x. (tree.tree_of x.0 ≡ t) × (x.1.now ≡ rest))) }
+    ensures shorter { IfOk result (λ f. IfSome f (λ x. length x.1.now < length pieces.now)) }
+{
+    match chain(alloc, names, 2, pieces)? {
+        None => Ok(None),
+        Some((inner, behind)) => match behind_sign(Sign::Close, behind) {
+            None => Ok(None),
+            Some(rest) => {
+                let inner = Boxed::new(alloc, inner)?;
+                Ok(Some((Expr::Brackets { inner }, rest)))
+            }
+        },
+    }
+}
+
+/// An expression of the operators up to a level.
+#[cycle(expression)]
+#[tactic(auto, using(crate::proofs::TreeLaws::trees))]
+pub(crate) fn chain<'a>(
+    alloc: Global,
+    names: &Names,
+    level: u8,
+    pieces: &'a [Piece],
+) -> Result<Option<(Expr, &'a [Piece])>, NoMemory>
+    requires few { length names.now ≤ 4294967296 }
+    requires level { level ≤ 2 }
+    ensures found { IfOk result (λ f. IfSome f (λ x. Reads names.now level pieces.now (tree.tree_of x.0) x.1.now)) }
+    ensures only { (t : tree.Tree) (rest : Items Piece) → Reads names.now level pieces.now t rest → Stops level rest → IfOk result (λ f. IsSomeAnd f (λ x. (tree.tree_of x.0 ≡ t) × (x.1.now ≡ rest))) }
+    ensures shorter { IfOk result (λ f. IfSome f (λ x. length x.1.now < length pieces.now)) }
+{
+    if level == 0 {
+        return operand(alloc, names, pieces);
+    }
+    match chain(alloc, names, level - 1, pieces)? {
+        None => Ok(None),
+        Some((left, rest)) => operators(alloc, names, level, left, rest),
+    }
+}
+
+/// The operators of a level behind their first operand, from left to right.
+#[cycle(expression)]
+#[tactic(auto, using(crate::proofs::TreeLaws::trees))]
+fn operators<'a>(
+    alloc: Global,
+    names: &Names,
+    level: u8,
+    left: Expr,
+    pieces: &'a [Piece],
+) -> Result<Option<(Expr, &'a [Piece])>, NoMemory>
+    requires few { length names.now ≤ 4294967296 }
+    requires low { 0 < level }
+    requires level { level ≤ 2 }
+    ensures found { IfOk result (λ f. IfSome f (λ x. Chains names.now level (tree.tree_of left) pieces.now (tree.tree_of x.0) x.1.now)) }
+    ensures only { (t : tree.Tree) (rest : Items Piece) → Chains names.now level (tree.tree_of left) pieces.now t rest → Stops level rest → IfOk result (λ f. IsSomeAnd f (λ x. (tree.tree_of x.0 ≡ t) × (x.1.now ≡ rest))) }
+    ensures shorter { IfOk result (λ f. IfSome f (λ x. length x.1.now ≤ length pieces.now)) }
+{
+    let mut left = left;
+    let mut rest = pieces;
+    while let Some((operator, piece, behind)) = operator_at(level, rest) {
+        match chain(alloc, names, level - 1, behind)? {
+            None => return Ok(None),
+            Some((right, after)) => {
+                left = Expr::Binary {
+                    operator,
+                    at: piece.token.place,
+                    left: Boxed::new(alloc, left)?,
+                    right: Boxed::new(alloc, right)?,
+                };
+                rest = after;
+            }
+        }
+    }
+    Ok(Some((left, rest)))
+}

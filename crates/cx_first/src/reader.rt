@@ -1,0 +1,149 @@
+//! First texts from pieces.
+ghost use Rattle.std.specs.Prelude.{◌≡◌, ◌≤◌, ◌<◌, List as Items, [], ◌∷◌, length, map, IfOk, IfSome, IfNone, IsSomeAnd};
+ghost use Rattle.cx_lex.specs.declared.token.Piece.{Piece};
+ghost use Rattle.cx_first.specs.Tree.{Form, Source, form_of, source_of};
+ghost use Rattle.cx_first.specs.Names.{Names as NamesSoFar};
+ghost use Rattle.cx_first.specs.Grammar.{Body, ReadsText, IsFirstText};
+ghost use Rattle.cx_first.specs.Descent.{is_closed, HeaderAt, NoHeader, OpeningAt, NoOpening};
+ghost use Rattle.cx_first.specs.Runs.{IsNumbered};
+
+use crate::names::Names;
+use crate::signs::{Sign, behind_sign, first, sign_of};
+use crate::statements::{Awaits, statement};
+use crate::tree::{FirstText, Statement};
+use cx_base::{List, NoMemory};
+use cx_lex::Piece;
+use std::alloc::Global;
+
+/// The most pieces that an expression may have.
+const LONGEST: usize = 256;
+
+/// Whether the body ends here, with the last of its pieces.
+#[tactic(auto, unfolding(crate::specs::Descent::is_closed))]
+fn is_closed(awaits: Awaits, pieces: &[Piece]) -> bool
+    ensures { result ≡ is_closed awaits pieces.now }
+{
+    match (awaits, pieces) {
+        (Awaits::Statement, [piece]) => matches!(sign_of(piece), Sign::End),
+        _ => false,
+    }
+}
+
+/// The statements of a function's body, up to its end.
+fn body(
+    alloc: Global,
+    function: &[u8],
+    limit: usize,
+    names: &mut Names,
+    pieces: &[Piece],
+) -> Result<Option<List<Statement>>, NoMemory>
+    requires few { length pieces.now < 4294967296 }
+    requires none { names.old ≡ [] }
+    ensures found { IfOk result (λ f. IfSome f (λ x. Body limit function.now Awaits.Statement [] pieces.now (map form_of x) names.new)) }
+    ensures only { (forms : Items Form) (all : NamesSoFar) → Body limit function.now Awaits.Statement [] pieces.now forms all → IfOk result (λ f. IsSomeAnd f (λ x. (map form_of x ≡ forms) × (names.new ≡ all))) }
+{
+    let mut statements = List::new(alloc);
+    let mut awaits = Awaits::Statement;
+    let mut rest = pieces;
+    while !is_closed(awaits, rest) {
+        match statement(alloc, function, limit, names, awaits, rest)? {
+            None => return Ok(None),
+            Some((form, next, behind)) => {
+                statements.push(form)?;
+                awaits = next;
+                rest = behind;
+            }
+        }
+    }
+    Ok(Some(statements))
+}
+
+/// What stands behind `( void ) {`.
+fn opening(pieces: &[Piece]) -> Option<&[Piece]>
+    ensures none { IfNone result (NoOpening pieces.now) }
+    ensures some { IfSome result (λ rest. OpeningAt pieces.now rest.now) }
+{
+    let Some(rest) = behind_sign(Sign::Open, pieces) else {
+        return None;
+    };
+    let Some(rest) = behind_sign(Sign::Void, rest) else {
+        return None;
+    };
+    let Some(rest) = behind_sign(Sign::Close, rest) else {
+        return None;
+    };
+    behind_sign(Sign::Begin, rest)
+}
+
+/// The name of a function, and the pieces of its body.
+fn header(pieces: &[Piece]) -> Option<(&Piece, &[Piece])>
+    ensures none { IfNone result (NoHeader pieces.now) }
+    ensures some { IfSome result (λ x. HeaderAt pieces.now x.0.now x.1.now) }
+{
+    let Some(named) = behind_sign(Sign::Int, pieces) else {
+        return None;
+    };
+    let Some((name, _)) = first(named) else {
+        return None;
+    };
+    let Some(rest) = behind_sign(Sign::Name, named) else {
+        return None;
+    };
+    match opening(rest) {
+        None => None,
+        Some(body) => Some((name, body)),
+    }
+}
+
+/// A function's text, behind its head.
+fn function(
+    alloc: Global,
+    name: &[u8],
+    limit: usize,
+    pieces: &[Piece],
+) -> Result<Option<FirstText>, NoMemory>
+    requires { length pieces.now < 4294967296 }
+    ensures found { IfOk result (λ f. IfSome f (λ x. Body limit name.now Awaits.Statement [] pieces.now (map form_of x.statements) x.names)) }
+    ensures only { (forms : Items Form) (all : NamesSoFar) → Body limit name.now Awaits.Statement [] pieces.now forms all → IfOk result (λ f. IsSomeAnd f (λ x. (map form_of x.statements ≡ forms) × (x.names ≡ all))) }
+{
+    let mut names = Names::new(alloc);
+    match body(alloc, name, limit, &mut names, pieces)? {
+        None => Ok(None),
+        Some(statements) => {
+            let names = names.to_list(alloc)?;
+            Ok(Some(FirstText { names, statements }))
+        }
+    }
+}
+
+/// The first text that the pieces are, with expressions of at most so many pieces.
+fn read_within(alloc: Global, limit: usize, pieces: &[Piece]) -> Result<Option<FirstText>, NoMemory>
+    requires { length pieces.now < 4294967296 }
+    ensures found { IfOk result (λ f. IfSome f (λ text. ReadsText limit pieces.now (source_of text))) }
+    ensures only { (source : Source) → ReadsText limit pieces.now source → IfOk result (λ f. IsSomeAnd f (λ text. source_of text ≡ source)) }
+{
+    if pieces.is_empty() {
+        return Ok(Some(FirstText {
+            names: List::new(alloc),
+            statements: List::new(alloc),
+        }));
+    }
+    match header(pieces) {
+        None => Ok(None),
+        Some((name, rest)) => function(alloc, name.token.text.as_slice(), limit, rest),
+    }
+}
+
+/// The first text that the pieces are: none at all, or one function `int Name ( void ) { .. }` of
+/// int declarations, assignments and returns, each name declared once and before its uses, and no
+/// expression of more than 256 pieces (C11 6.9.1, 6.8.2, 6.7, 6.5). `None` where they are no first
+/// text.
+#[tactic(auto, using(crate::proofs::SizeLaws::text_numbered))]
+pub fn read(alloc: Global, pieces: &[Piece]) -> Result<Option<FirstText>, NoMemory>
+    requires { length pieces.now < 4294967295 }
+    ensures found { IfOk result (λ f. IfSome f (λ text. IsFirstText pieces.now (source_of text))) }
+    ensures only { (source : Source) → IsFirstText pieces.now source → IfOk result (λ f. IsSomeAnd f (λ text. source_of text ≡ source)) }
+    ensures numbered { IfOk result (λ f. IfSome f (λ text. IsNumbered (source_of text))) }
+{
+    read_within(alloc, LONGEST, pieces)
+}

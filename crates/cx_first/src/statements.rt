@@ -1,0 +1,338 @@
+//! Statements and declarators from pieces, one at a time.
+ghost use Rattle.std.specs.Prelude.{◌≡◌, ◌≤◌, ◌<◌, ◌+◌, ℕ, List as Items, [], ◌∷◌, ◌++◌, length, IfOk, IfSome, IfNone, IsSomeAnd, IsTrue, Option as Maybe, None, Some, option_map};
+ghost use Rattle.cx_lex.specs.declared.token.Piece.{Piece};
+ghost use Rattle.cx_first.specs.Tree.{Tree, Form, tree_of, form_of};
+ghost use Rattle.cx_first.specs.Names.{Names as NamesSoFar, index_of};
+ghost use Rattle.cx_first.specs.Grammar.{Expression, Initialiser, Declarator, Simple, Reading, IsNew, follows};
+ghost use Rattle.cx_first.specs.Signs.{sign};
+ghost use Rattle.cx_first.specs.Descent.{ends_expression, ends_after, NewNameAt, NoNewName};
+
+use crate::expressions::chain;
+use crate::keywords::equals;
+use crate::names::Names;
+use crate::signs::{Sign, behind_sign, first, sign_of};
+use crate::tree::{Expr, Statement};
+use cx_base::NoMemory;
+use cx_lex::Piece;
+use std::alloc::Global;
+
+/// What the reader awaits.
+#[derive(Clone, Copy, Debug, PartialEq, Eq)]
+pub enum Awaits {
+    /// A statement, a declaration, or the end of the body.
+    Statement,
+    /// A further declarator of a declaration.
+    Declarator,
+}
+
+/// Whether a mark stands behind expressions, and never in them.
+#[tactic(auto, unfolding(crate::specs::Descent::ends_expression))]
+fn ends_expression(sign: Sign) -> bool
+    ensures { result ≡ ends_expression sign }
+{
+    match sign {
+        Sign::Comma | Sign::Semicolon => true,
+        _ => false,
+    }
+}
+
+/// How many pieces stand before the first mark that ends an expression, where they are at most so
+/// many.
+fn length_of(limit: usize, pieces: &[Piece]) -> Option<usize>
+    ensures { result ≡ ends_after limit pieces.now }
+{
+    let mut count = 0;
+    let mut rest = pieces;
+    while let Some((piece, behind)) = first(rest) {
+        if ends_expression(sign_of(piece)) {
+            return Some(count);
+        }
+        if count == limit {
+            return None;
+        }
+        count += 1;
+        rest = behind;
+    }
+    None
+}
+
+/// An expression of at most so many pieces, and the mark behind it.
+fn expression<'a>(
+    alloc: Global,
+    names: &Names,
+    limit: usize,
+    pieces: &'a [Piece],
+) -> Result<Option<(Expr, Sign, &'a [Piece])>, NoMemory>
+    requires { length names.now ≤ 4294967296 }
+    ensures found { IfOk result (λ f. IfSome f (λ x. Expression limit names.now pieces.now (tree_of x.0) x.1 x.2.now)) }
+    ensures only { (t : Tree) (mark : Sign) (rest : Items Piece) → Expression limit names.now pieces.now t mark rest → IsTrue (ends_expression mark) → IfOk result (λ f. IsSomeAnd f (λ x. (tree_of x.0 ≡ t) × (x.1 ≡ mark) × (x.2.now ≡ rest))) }
+    ensures shorter { IfOk result (λ f. IfSome f (λ x. length x.2.now < length pieces.now)) }
+{
+    let Some(count) = length_of(limit, pieces) else {
+        return Ok(None);
+    };
+    let (front, behind) = pieces.split_at(count);
+    let Some((last, rest)) = first(behind) else {
+        return Ok(None);
+    };
+    match chain(alloc, names, 2, front)? {
+        None => Ok(None),
+        Some((value, left)) => {
+            if left.is_empty() {
+                Ok(Some((value, sign_of(last), rest)))
+            } else {
+                Ok(None)
+            }
+        }
+    }
+}
+
+/// What may follow behind the mark at the end of a declarator.
+#[tactic(auto, unfolding(crate::specs::Grammar::follows))]
+fn follows(mark: Sign) -> Option<Awaits>
+    ensures { result ≡ follows mark }
+{
+    match mark {
+        Sign::Comma => Some(Awaits::Declarator),
+        Sign::Semicolon => Some(Awaits::Statement),
+        _ => None,
+    }
+}
+
+/// The name that a declarator begins with, where it may be declared, and the pieces behind it.
+fn new_name<'a>(
+    function: &[u8],
+    names: &Names,
+    pieces: &'a [Piece],
+) -> Option<(&'a Piece, &'a [Piece])>
+    requires { length names.now ≤ 4294967296 }
+    ensures none { IfNone result (NoNewName function.now names.now pieces.now) }
+    ensures some { IfSome result (λ x. NewNameAt function.now names.now pieces.now x.0.now x.1.now) }
+{
+    let (piece, rest) = first(pieces)?;
+    let text = piece.token.text.as_slice();
+    match sign_of(piece) {
+        Sign::Name => {
+            if equals(text, function) {
+                return None;
+            }
+            match names.find(text) {
+                Some(_) => None,
+                None => Some((piece, rest)),
+            }
+        }
+        _ => None,
+    }
+}
+
+/// A declarator's initialiser, if it has one, and the mark behind it.
+fn initialiser<'a>(
+    alloc: Global,
+    names: &Names,
+    limit: usize,
+    pieces: &'a [Piece],
+) -> Result<Option<(Option<Expr>, Sign, &'a [Piece])>, NoMemory>
+    requires { length names.now ≤ 4294967296 }
+    ensures found { IfOk result (λ f. IfSome f (λ x. Initialiser limit names.now pieces.now (option_map tree_of x.0) x.1 x.2.now)) }
+    ensures only { (t : Maybe Tree) (mark : Sign) (rest : Items Piece) → Initialiser limit names.now pieces.now t mark rest → IsTrue (ends_expression mark) → IfOk result (λ f. IsSomeAnd f (λ x. (option_map tree_of x.0 ≡ t) × (x.1 ≡ mark) × (x.2.now ≡ rest))) }
+    ensures shorter { IfOk result (λ f. IfSome f (λ x. length x.2.now < length pieces.now)) }
+{
+    let Some((piece, rest)) = first(pieces) else {
+        return Ok(None);
+    };
+    match sign_of(piece) {
+        Sign::Equals => match expression(alloc, names, limit, rest)? {
+            None => Ok(None),
+            Some((value, mark, rest)) => Ok(Some((Some(value), mark, rest))),
+        },
+        mark => Ok(Some((None, mark, rest))),
+    }
+}
+
+/// One declarator: its name counts as declared from its own initialiser on.
+fn declarator<'a>(
+    alloc: Global,
+    function: &[u8],
+    limit: usize,
+    names: &mut Names,
+    pieces: &'a [Piece],
+) -> Result<Option<(Statement, Sign, &'a [Piece])>, NoMemory>
+    requires { length names.old < 4294967296 }
+    ensures found { IfOk result (λ f. IfSome f (λ x. Declarator limit function.now names.old pieces.now (form_of x.0) x.1 names.new x.2.now)) }
+    ensures only { (form : Form) (mark : Sign) (then : NamesSoFar) (rest : Items Piece) → Declarator limit function.now names.old pieces.now form mark then rest → IsTrue (ends_expression mark) → IfOk result (λ f. IsSomeAnd f (λ x. (form_of x.0 ≡ form) × (x.1 ≡ mark) × (names.new ≡ then) × (x.2.now ≡ rest))) }
+    ensures shorter { IfOk result (λ f. IfSome f (λ x. length x.2.now < length pieces.now)) }
+    ensures grown { IfOk result (λ _. length names.new ≤ length names.old + 1) }
+{
+    let Some((piece, rest)) = new_name(function, names, pieces) else {
+        return Ok(None);
+    };
+    let variable = names.len() as u32;
+    names.declare(alloc, piece.token.text.as_slice())?;
+    match initialiser(alloc, names, limit, rest)? {
+        None => Ok(None),
+        Some((value, mark, rest)) => {
+            let at = piece.token.place;
+            Ok(Some((
+                Statement::Declare {
+                    variable,
+                    at,
+                    value,
+                },
+                mark,
+                rest,
+            )))
+        }
+    }
+}
+
+/// One declarator, with what may follow it.
+fn declaration<'a>(
+    alloc: Global,
+    function: &[u8],
+    limit: usize,
+    names: &mut Names,
+    pieces: &'a [Piece],
+) -> Result<Option<(Statement, Awaits, &'a [Piece])>, NoMemory>
+    requires { length names.old < 4294967296 }
+    ensures found { IfOk result (λ f. IfSome f (λ x. Reading limit function.now names.old Awaits.Declarator pieces.now (form_of x.0) x.1 names.new x.2.now)) }
+    ensures only { (form : Form) (next : Awaits) (then : NamesSoFar) (rest : Items Piece) → Reading limit function.now names.old Awaits.Declarator pieces.now form next then rest → IfOk result (λ f. IsSomeAnd f (λ x. (form_of x.0 ≡ form) × (x.1 ≡ next) × (names.new ≡ then) × (x.2.now ≡ rest))) }
+    ensures shorter { IfOk result (λ f. IfSome f (λ x. length x.2.now < length pieces.now)) }
+    ensures grown { IfOk result (λ _. length names.new ≤ length names.old + 1) }
+{
+    match declarator(alloc, function, limit, names, pieces)? {
+        None => Ok(None),
+        Some((statement, mark, rest)) => match follows(mark) {
+            None => Ok(None),
+            Some(next) => Ok(Some((statement, next, rest))),
+        },
+    }
+}
+
+/// An expression with a `;` behind it.
+fn closed_expression<'a>(
+    alloc: Global,
+    limit: usize,
+    names: &Names,
+    pieces: &'a [Piece],
+) -> Result<Option<(Expr, &'a [Piece])>, NoMemory>
+    requires { length names.now ≤ 4294967296 }
+    ensures found { IfOk result (λ f. IfSome f (λ x. Expression limit names.now pieces.now (tree_of x.0) Sign.Semicolon x.1.now)) }
+    ensures only { (t : Tree) (rest : Items Piece) → Expression limit names.now pieces.now t Sign.Semicolon rest → IfOk result (λ f. IsSomeAnd f (λ x. (tree_of x.0 ≡ t) × (x.1.now ≡ rest))) }
+    ensures shorter { IfOk result (λ f. IfSome f (λ x. length x.1.now < length pieces.now)) }
+{
+    match expression(alloc, names, limit, pieces)? {
+        None => Ok(None),
+        Some((value, mark, rest)) => match mark {
+            Sign::Semicolon => Ok(Some((value, rest))),
+            _ => Ok(None),
+        },
+    }
+}
+
+/// An assignment, behind its name.
+fn assignment<'a>(
+    alloc: Global,
+    limit: usize,
+    names: &Names,
+    piece: &Piece,
+    pieces: &'a [Piece],
+) -> Result<Option<(Statement, &'a [Piece])>, NoMemory>
+    requires few { length names.now ≤ 4294967296 }
+    requires name { sign piece.now ≡ Sign.Name }
+    ensures found { IfOk result (λ f. IfSome f (λ x. Simple limit names.now (piece.now ∷ pieces.now) (form_of x.0) x.1.now)) }
+    ensures only { (form : Form) (rest : Items Piece) → Simple limit names.now (piece.now ∷ pieces.now) form rest → IfOk result (λ f. IsSomeAnd f (λ x. (form_of x.0 ≡ form) × (x.1.now ≡ rest))) }
+    ensures shorter { IfOk result (λ f. IfSome f (λ x. length x.1.now < length pieces.now)) }
+{
+    let Some(variable) = names.find(piece.token.text.as_slice()) else {
+        return Ok(None);
+    };
+    let Some(rest) = behind_sign(Sign::Equals, pieces) else {
+        return Ok(None);
+    };
+    match closed_expression(alloc, limit, names, rest)? {
+        None => Ok(None),
+        Some((value, rest)) => {
+            let at = piece.token.place;
+            Ok(Some((
+                Statement::Assign {
+                    variable,
+                    at,
+                    value,
+                },
+                rest,
+            )))
+        }
+    }
+}
+
+/// What a `return` gives, behind its word.
+fn returned<'a>(
+    alloc: Global,
+    limit: usize,
+    names: &Names,
+    piece: &Piece,
+    pieces: &'a [Piece],
+) -> Result<Option<(Statement, &'a [Piece])>, NoMemory>
+    requires few { length names.now ≤ 4294967296 }
+    requires word { sign piece.now ≡ Sign.Return }
+    ensures found { IfOk result (λ f. IfSome f (λ x. Simple limit names.now (piece.now ∷ pieces.now) (form_of x.0) x.1.now)) }
+    ensures only { (form : Form) (rest : Items Piece) → Simple limit names.now (piece.now ∷ pieces.now) form rest → IfOk result (λ f. IsSomeAnd f (λ x. (form_of x.0 ≡ form) × (x.1.now ≡ rest))) }
+    ensures shorter { IfOk result (λ f. IfSome f (λ x. length x.1.now < length pieces.now)) }
+{
+    match closed_expression(alloc, limit, names, pieces)? {
+        None => Ok(None),
+        Some((value, rest)) => {
+            let at = piece.token.place;
+            Ok(Some((Statement::Return { at, value }, rest)))
+        }
+    }
+}
+
+/// An assignment or a `return`.
+fn simple<'a>(
+    alloc: Global,
+    limit: usize,
+    names: &Names,
+    pieces: &'a [Piece],
+) -> Result<Option<(Statement, &'a [Piece])>, NoMemory>
+    requires { length names.now ≤ 4294967296 }
+    ensures found { IfOk result (λ f. IfSome f (λ x. Simple limit names.now pieces.now (form_of x.0) x.1.now)) }
+    ensures only { (form : Form) (rest : Items Piece) → Simple limit names.now pieces.now form rest → IfOk result (λ f. IsSomeAnd f (λ x. (form_of x.0 ≡ form) × (x.1.now ≡ rest))) }
+    ensures shorter { IfOk result (λ f. IfSome f (λ x. length x.1.now < length pieces.now)) }
+{
+    let Some((piece, rest)) = first(pieces) else {
+        return Ok(None);
+    };
+    match sign_of(piece) {
+        Sign::Name => assignment(alloc, limit, names, piece, rest),
+        Sign::Return => returned(alloc, limit, names, piece, rest),
+        _ => Ok(None),
+    }
+}
+
+/// One statement or declarator, and what is awaited behind it.
+pub(crate) fn statement<'a>(
+    alloc: Global,
+    function: &[u8],
+    limit: usize,
+    names: &mut Names,
+    awaits: Awaits,
+    pieces: &'a [Piece],
+) -> Result<Option<(Statement, Awaits, &'a [Piece])>, NoMemory>
+    requires { length names.old < 4294967296 }
+    ensures found { IfOk result (λ f. IfSome f (λ x. Reading limit function.now names.old awaits pieces.now (form_of x.0) x.1 names.new x.2.now)) }
+    ensures only { (form : Form) (next : Awaits) (then : NamesSoFar) (rest : Items Piece) → Reading limit function.now names.old awaits pieces.now form next then rest → IfOk result (λ f. IsSomeAnd f (λ x. (form_of x.0 ≡ form) × (x.1 ≡ next) × (names.new ≡ then) × (x.2.now ≡ rest))) }
+    ensures shorter { IfOk result (λ f. IfSome f (λ x. length x.2.now < length pieces.now)) }
+    ensures grown { IfOk result (λ _. length names.new ≤ length names.old + 1) }
+{
+    match awaits {
+        Awaits::Declarator => declaration(alloc, function, limit, names, pieces),
+        Awaits::Statement => match behind_sign(Sign::Int, pieces) {
+            Some(rest) => declaration(alloc, function, limit, names, rest),
+            None => match simple(alloc, limit, names, pieces)? {
+                None => Ok(None),
+                Some((statement, rest)) => Ok(Some((statement, Awaits::Statement, rest))),
+            },
+        },
+    }
+}
