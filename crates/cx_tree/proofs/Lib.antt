@@ -1,2 +1,4 @@
+pub mod CommonTypeLaws
 pub mod OutsideLaws
 pub mod QuotientLaws
+pub mod ValueLaws

@@ -1,5 +1,5 @@
 -- A result outside of `i128` fits as its low 128 bits say.
-use Rattle.std.proofs.Common.{◌≡◌, ℕ, zero, suc, ◌+◌, ◌-◌, ◌*◌, ◌/◌, ◌%◌, ◌^◌, ◌<◌, ◌≤◌, ℤ, pos, negsuc, ◌+ℤ◌, ◌-ℤ◌, ◌*ℤ◌, neg_ℤ, FitsSigned, refl, sym, ap, ◌∙◌, arith, Option, Some, None, unsigned_abs, Bool, true, false, cond, ◌&&◌, int_le, ◌≤ℤ◌}
+use Rattle.std.proofs.Common.{◌≡◌, ℕ, ◌+◌, ◌-◌, ◌*◌, ◌/◌, ◌%◌, ◌^◌, ◌<◌, ◌≤◌, ℤ, pos, negsuc, ◌+ℤ◌, ◌-ℤ◌, ◌*ℤ◌, neg_ℤ, FitsSigned, refl, sym, ap, ◌∙◌, arith, Some, None, false, cond, ◌&&◌, int_le, ◌≤ℤ◌}
 use Rattle.std.specs.Ordering.{int_eq}
 use Rattle.std.proofs.Math.Nat.{mul-le-mul_left}
 use Rattle.std.proofs.lemmas.Int.{ints, int_rem_euclid_is, wrapping_add_is, wrapping_sub_is, wrapping_mul_is, wrapping_neg_is}
@@ -17,7 +17,8 @@ use Rattle.cx_tree.specs.Arithmetic.{fit, fit_in}
 use Rattle.cx_tree.specs.Outside.{fit_outside, fit_outside_of}
 
 -- numbers that differ by a multiple of n have the same remainder
-same_remainder : (n : ℕ) (a b : ℤ) (j k : ℕ) → 0 < n → a +ℤ pos (j * n) ≡ b +ℤ pos (k * n) → int_rem_euclid a (pos n) ≡ int_rem_euclid b (pos n)
+same_remainder : (n : ℕ) (a b : ℤ) (j k : ℕ) → 0 < n → a +ℤ pos (j * n) ≡ b +ℤ pos (k * n)
+    → int_rem_euclid a (pos n) ≡ int_rem_euclid b (pos n)
 same_remainder n a b j k some e =
     let t = down a + down b in
     let far : t * 1 ≤ t * n = mul-le-mul_left t some in
@@ -42,10 +43,22 @@ left (negsuc a) =
     (r.0, a / 2 ^ 128 + 1, omega (arith, ints))
 
 low_bits_wrapped : (w : Width) (z : ℤ) → low_bits w (int_wrap w128 z) ≡ low_bits w z
-low_bits_wrapped Bits8 z = let l = left z in let e = l.2 in same_remainder 256 (int_wrap w128 z) z (l.0 * 2 ^ 120) (l.1 * 2 ^ 120) (omega arith) (omega (arith, ints))
-low_bits_wrapped Bits16 z = let l = left z in let e = l.2 in same_remainder 65536 (int_wrap w128 z) z (l.0 * 2 ^ 112) (l.1 * 2 ^ 112) (omega arith) (omega (arith, ints))
-low_bits_wrapped Bits32 z = let l = left z in let e = l.2 in same_remainder 4294967296 (int_wrap w128 z) z (l.0 * 2 ^ 96) (l.1 * 2 ^ 96) (omega arith) (omega (arith, ints))
-low_bits_wrapped Bits64 z = let l = left z in let e = l.2 in same_remainder 18446744073709551616 (int_wrap w128 z) z (l.0 * 2 ^ 64) (l.1 * 2 ^ 64) (omega arith) (omega (arith, ints))
+low_bits_wrapped Bits8 z =
+    let l = left z in
+    let e = l.2 in
+    same_remainder 256 (int_wrap w128 z) z (l.0 * 2 ^ 120) (l.1 * 2 ^ 120) (omega arith) (omega (arith, ints))
+low_bits_wrapped Bits16 z =
+    let l = left z in
+    let e = l.2 in
+    same_remainder 65536 (int_wrap w128 z) z (l.0 * 2 ^ 112) (l.1 * 2 ^ 112) (omega arith) (omega (arith, ints))
+low_bits_wrapped Bits32 z =
+    let l = left z in
+    let e = l.2 in
+    same_remainder 4294967296 (int_wrap w128 z) z (l.0 * 2 ^ 96) (l.1 * 2 ^ 96) (omega arith) (omega (arith, ints))
+low_bits_wrapped Bits64 z =
+    let l = left z in
+    let e = l.2 in
+    same_remainder 18446744073709551616 (int_wrap w128 z) z (l.0 * 2 ^ 64) (l.1 * 2 ^ 64) (omega arith) (omega (arith, ints))
 
 zero_fits : (z : ℤ) → z ≡ pos 0 → FitsSigned w128 z
 zero_fits z e = omega (arith, ints)
@@ -59,7 +72,8 @@ within_fits Bits16 z a b = omega (arith, ints)
 within_fits Bits32 z a b = omega (arith, ints)
 within_fits Bits64 z a b = omega (arith, ints)
 
-signed_out : (w : Width) (z : ℤ) → (FitsSigned w128 z → ⊥) → (int_le (least_of Signed w) z && int_le z (greatest_of Signed w)) ≡ false
+signed_out : (w : Width) (z : ℤ) → (FitsSigned w128 z → ⊥)
+    → (int_le (least_of Signed w) z && int_le z (greatest_of Signed w)) ≡ false
 signed_out w z out = grind (arith, ints, within_fits)
 
 outside_of : (k : Kind) (w : Width) (z : ℤ) → (FitsSigned w128 z → ⊥) → fit_outside_of k w (int_wrap w128 z) ≡ fit_in k w z
@@ -74,14 +88,18 @@ pub outside : (t : IntType) (p : Platform) (z : ℤ) → (FitsSigned w128 z → 
 unfolding fit_outside
 outside t p z out = outside_of (kind t) (width t p) z out
 
-pub add_outside : (t : IntType) (p : Platform) (a b : ℤ) → FitsSigned w128 a → FitsSigned w128 b → (FitsSigned w128 (a +ℤ b) → ⊥) → fit_outside t p (int_wrapping_add w128 a b) ≡ fit t p (a +ℤ b)
+pub add_outside : (t : IntType) (p : Platform) (a b : ℤ) → FitsSigned w128 a → FitsSigned w128 b
+    → (FitsSigned w128 (a +ℤ b) → ⊥) → fit_outside t p (int_wrapping_add w128 a b) ≡ fit t p (a +ℤ b)
 add_outside t p a b f g out = ap (fit_outside t p) (wrapping_add_is w128 a b f g) ∙ outside t p (a +ℤ b) out
 
-pub subtract_outside : (t : IntType) (p : Platform) (a b : ℤ) → FitsSigned w128 a → FitsSigned w128 b → (FitsSigned w128 (a -ℤ b) → ⊥) → fit_outside t p (int_wrapping_sub w128 a b) ≡ fit t p (a -ℤ b)
+pub subtract_outside : (t : IntType) (p : Platform) (a b : ℤ) → FitsSigned w128 a → FitsSigned w128 b
+    → (FitsSigned w128 (a -ℤ b) → ⊥) → fit_outside t p (int_wrapping_sub w128 a b) ≡ fit t p (a -ℤ b)
 subtract_outside t p a b f g out = ap (fit_outside t p) (wrapping_sub_is w128 a b f g) ∙ outside t p (a -ℤ b) out
 
-pub multiply_outside : (t : IntType) (p : Platform) (a b : ℤ) → FitsSigned w128 a → FitsSigned w128 b → (FitsSigned w128 (a *ℤ b) → ⊥) → fit_outside t p (int_wrapping_mul w128 a b) ≡ fit t p (a *ℤ b)
+pub multiply_outside : (t : IntType) (p : Platform) (a b : ℤ) → FitsSigned w128 a → FitsSigned w128 b
+    → (FitsSigned w128 (a *ℤ b) → ⊥) → fit_outside t p (int_wrapping_mul w128 a b) ≡ fit t p (a *ℤ b)
 multiply_outside t p a b f g out = ap (fit_outside t p) (wrapping_mul_is w128 a b f g) ∙ outside t p (a *ℤ b) out
 
-pub negate_outside : (t : IntType) (p : Platform) (a : ℤ) → FitsSigned w128 a → (FitsSigned w128 (neg_ℤ a) → ⊥) → fit_outside t p (int_wrapping_neg w128 a) ≡ fit t p (neg_ℤ a)
+pub negate_outside : (t : IntType) (p : Platform) (a : ℤ) → FitsSigned w128 a → (FitsSigned w128 (neg_ℤ a) → ⊥)
+    → fit_outside t p (int_wrapping_neg w128 a) ≡ fit t p (neg_ℤ a)
 negate_outside t p a f out = ap (fit_outside t p) (wrapping_neg_is w128 a f) ∙ outside t p (neg_ℤ a) out

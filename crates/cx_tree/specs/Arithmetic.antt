@@ -1,6 +1,6 @@
 -- The integer operators of C11 (ISO/IEC 9899:2011) on two whole numbers, operands of one type: None where the
 -- behavior is undefined.
-use Rattle.std.specs.Prelude.{ℕ, ◌^◌, ◌<◌, ℤ, pos, negsuc, neg_ℤ, ◌+ℤ◌, ◌-ℤ◌, ◌*ℤ◌, Bool, true, false, not, ◌&&◌, if◌then◌else◌, nat_lt, int_le, int_lt, int_div, unsigned_abs, Option, Some, None, option_and_then}
+use Rattle.std.specs.Prelude.{ℕ, ◌^◌, ℤ, pos, negsuc, neg_ℤ, ◌+ℤ◌, ◌-ℤ◌, ◌*ℤ◌, Bool, false, not, ◌&&◌, if◌then◌else◌, nat_lt, int_le, int_lt, int_div, unsigned_abs, Option, Some, None, option_and_then}
 use Rattle.std.specs.Ordering.{int_eq}
 use Rattle.std.specs.Int.{int_div_euclid}
 use Rattle.std.specs.Int.RustNames.{bit_and, bit_or, bit_xor}
@@ -37,17 +37,17 @@ abbrev pub shift_count : IntType → Platform → ℤ → Option ℕ
 shift_count t p (pos n) = if nat_lt n (bits (width (promote t p) p)) then Some n else None
 shift_count t p (negsuc n) = None
 
--- C11 6.5.7p4: whether << is undefined whatever the count is, as at a negative value of a signed type
-abbrev pub is_shifted_never : Kind → ℤ → Bool
-is_shifted_never Boolean a = false
-is_shifted_never Signed a = int_lt a (pos 0)
-is_shifted_never Unsigned a = false
+-- C11 6.5.7p4: << is undefined at a negative value of a signed type
+abbrev pub is_negative_of_signed : Kind → ℤ → Bool
+is_negative_of_signed Boolean a = false
+is_negative_of_signed Signed a = int_lt a (pos 0)
+is_negative_of_signed Unsigned a = false
 
 -- C11 6.5.7p4: a times 2 to the power b
 abbrev pub shift_left : IntType → Platform → ℤ → ℤ → Option ℤ
 shift_left t p a b =
     option_and_then
-    (λ n. if is_shifted_never (kind t) a then None else fit t p (a *ℤ pos (2 ^ n)))
+    (λ n. if is_negative_of_signed (kind t) a then None else fit t p (a *ℤ pos (2 ^ n)))
     (shift_count t p b)
 
 -- C11 6.5.7p5: a divided by 2 to the power b, rounded down
@@ -67,7 +67,7 @@ abbrev pub truth : Bool → Option ℤ
 truth holds = Some (if holds then pos 1 else pos 0)
 
 -- C11 6.5.3.3 and 6.5.5 to 6.5.12: each operator; - and ~ take a alone, and ~ gives -a - 1 (6.2.6.2p2)
-abbrev pub arith : Op → IntType → Platform → ℤ → ℤ → Option ℤ
+unfoldable pub arith : Op → IntType → Platform → ℤ → ℤ → Option ℤ
 arith operator.Multiply t p a b = fit t p (a *ℤ b)
 arith operator.Divide t p a b = divide t p a b
 arith operator.Remainder t p a b = remainder t p a b

@@ -25,7 +25,7 @@ convert_to Signed w x = signed_value w (low_bits w x)
 convert_to Unsigned w x = low_bits w x
 
 -- C11 6.3.1.3p1: the value of type t that x becomes
-abbrev pub convert : IntType → Platform → ℤ → ℤ
+unfoldable pub convert : IntType → Platform → ℤ → ℤ
 convert t p x = convert_to (kind t) (width t p) x
 
 -- C11 6.3.1.1p1: the order of the ranks
@@ -48,7 +48,7 @@ abbrev pub represents : IntType → IntType → Platform → Bool
 represents t u p = int_le (least t p) (least u p) && int_le (greatest u p) (greatest t p)
 
 -- C11 6.3.1.1p2: the integer promotions
-abbrev pub promote : IntType → Platform → IntType
+unfoldable pub promote : IntType → Platform → IntType
 promote t p =
     if nat_lt (rank t) (rank ctype.Int)
     then (if represents ctype.Int t p then ctype.Int else ctype.UnsignedInt)
@@ -73,6 +73,7 @@ of_mixed u s p =
     then u
     else (if represents s u p then s else unsigned_of s)
 
+-- C11 6.3.1.8p1: the choice between those two rules
 abbrev pub common_of : Kind → Kind → IntType → IntType → Platform → IntType
 common_of Signed Unsigned a b p = of_mixed b a p
 common_of Unsigned Signed a b p = of_mixed a b p
@@ -82,5 +83,6 @@ common_of _ _ a b p = greater_rank a b
 abbrev pub common : IntType → IntType → Platform → IntType
 common a b p = common_of (kind a) (kind b) a b p
 
-abbrev pub usual : IntType → IntType → Platform → IntType
+-- C11 6.3.1.8p1: the common type of two operands, after the promotions
+unfoldable pub usual : IntType → IntType → Platform → IntType
 usual a b p = common (promote a p) (promote b p) p

@@ -1,5 +1,5 @@
 -- The integer types of C11 (ISO/IEC 9899:2011) and their values on each platform.
-use Rattle.std.specs.Prelude.{ℕ, ◌*◌, ◌-◌, ℤ, pos, neg_ℤ}
+use Rattle.std.specs.Prelude.{ℕ, ◌-◌, ℤ, pos, neg_ℤ}
 use Rattle.cx_tree.specs.declared.types.Platform.{Platform}
 use Rattle.cx_tree.specs.declared.types.Platform.TheVariants.{Unix32, Unix64, Win64}
 use Rattle.cx_tree.specs.declared.types.IntType.{IntType}
@@ -66,20 +66,22 @@ sign_bit Bits16 = 32768
 sign_bit Bits32 = 2147483648
 sign_bit Bits64 = 9223372036854775808
 
--- C11 6.2.6.2p1 and p2: the least and the greatest value of a kind of type
+-- C11 6.2.6.2p1 and p2: the least value of a kind of type
 abbrev pub least_of : Kind → Width → ℤ
 least_of Boolean w = pos 0
 least_of Signed w = neg_ℤ (pos (sign_bit w))
 least_of Unsigned w = pos 0
 
+-- C11 6.2.6.2p1 and p2: the greatest value of a kind of type; 1 is that of _Bool (6.3.1.2)
 abbrev pub greatest_of : Kind → Width → ℤ
 greatest_of Boolean w = pos 1
 greatest_of Signed w = pos (sign_bit w - 1)
 greatest_of Unsigned w = pos (span w - 1)
 
--- C11 5.2.4.2.1p1: the limits of each type, and of _Bool (6.2.5p2)
+-- C11 5.2.4.2.1p1: the least value of each type, and of _Bool (6.2.5p2)
 abbrev pub least : IntType → Platform → ℤ
 least t p = least_of (kind t) (width t p)
 
+-- C11 5.2.4.2.1p1: the greatest value of each type, and of _Bool (6.2.5p2)
 abbrev pub greatest : IntType → Platform → ℤ
 greatest t p = greatest_of (kind t) (width t p)

@@ -19,6 +19,7 @@ pub(crate) fn low_bits(w: Width, value: i128) -> i128
     }
 }
 
+/// The value that low bits have in a signed type.
 fn signed_value(w: Width, low: i128) -> i128
     requires { pos 0 ≤ℤ low }
     ensures { result ≡ rules.signed_value w low }
@@ -32,6 +33,7 @@ fn signed_value(w: Width, low: i128) -> i128
 
 /// What a value becomes when it is converted to a type (C11 6.3.1.2 and 6.3.1.3): 0 or 1 in `_Bool`, the rest modulo
 /// a power of two in an unsigned type, and in a signed type the value that its low bits have in two's complement.
+#[tactic(auto, unfolding(crate::specs::ConversionRules::convert))]
 pub fn convert(t: IntType, p: Platform, value: i128) -> i128
     ensures { result ≡ rules.convert t p value }
 {
@@ -43,6 +45,7 @@ pub fn convert(t: IntType, p: Platform, value: i128) -> i128
 }
 
 /// The type that an operand of type `t` is promoted to (C11 6.3.1.1p2).
+#[tactic(auto, unfolding(crate::specs::ConversionRules::promote))]
 pub fn promote(t: IntType, p: Platform) -> IntType
     ensures { result ≡ rules.promote t p }
 {
@@ -57,7 +60,7 @@ pub fn promote(t: IntType, p: Platform) -> IntType
     }
 }
 
-/// The place of a promoted type's rank among the ranks.
+/// The type's place in the order of the ranks (C11 6.3.1.1p1).
 fn rank(t: IntType) -> u8
     ensures { result ≡ rules.rank t }
 {
@@ -71,6 +74,7 @@ fn rank(t: IntType) -> u8
     }
 }
 
+/// The unsigned type that corresponds to a promoted type (C11 6.2.5p6).
 fn unsigned_of(t: IntType) -> IntType
     ensures { result ≡ rules.unsigned_of t }
 {
@@ -109,6 +113,7 @@ fn common(a: IntType, b: IntType, p: Platform) -> IntType
 }
 
 /// The common type of two operands (C11 6.3.1.8, the usual arithmetic conversions).
+#[tactic(auto, unfolding(crate::specs::ConversionRules::usual))]
 pub fn usual(a: IntType, b: IntType, p: Platform) -> IntType
     ensures { result ≡ rules.usual a b p }
 {

@@ -5,9 +5,13 @@
 #![tactic(auto)]
 
 mod conversions;
+pub mod laws;
 mod operators;
 mod types;
 
 pub use conversions::{convert, promote, usual};
 pub use operators::{Op, arith};
 pub use types::{IntType, Kind, Platform, Width, bits, greatest, kind_of, least, width_of};
+
+#[cfg(test)]
+mod tests;

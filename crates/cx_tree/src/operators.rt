@@ -1,6 +1,7 @@
 //! The integer operators, on whole numbers that are operands of one type.
 ghost use Rattle.std.specs.Prelude.{◌≡◌, ℕ, ◌<◌, ◌^◌, pos, ◌+ℤ◌, ◌-ℤ◌, ◌*ℤ◌, neg_ℤ, IfSome};
 ghost use Rattle.cx_tree.specs.Arithmetic as rules;
+ghost use Rattle.cx_tree.specs.ConversionRules as conversions;
 ghost use Rattle.cx_tree.specs.IntegerTypes as types;
 ghost use Rattle.cx_tree.specs.Outside.{fit_outside};
 
@@ -33,6 +34,7 @@ pub enum Op {
 }
 
 /// A result in its type: converted to an unsigned type or `_Bool`, and `None` where a signed type does not hold it.
+#[tactic(auto, unfolding(crate::specs::ConversionRules::convert))]
 fn fit(t: IntType, p: Platform, value: i128) -> Option<i128>
     ensures { result ≡ rules.fit t p value }
 {
@@ -49,8 +51,8 @@ fn fit(t: IntType, p: Platform, value: i128) -> Option<i128>
     }
 }
 
-#[tactic(auto, unfolding(crate::specs::Outside::fit_outside))]
 /// The same of a result that is no `i128`, of which `low` are the low 128 bits.
+#[tactic(auto, unfolding(crate::specs::Outside::fit_outside))]
 fn fit_outside(t: IntType, p: Platform, low: i128) -> Option<i128>
     ensures { result ≡ fit_outside t p low }
 {
@@ -61,7 +63,7 @@ fn fit_outside(t: IntType, p: Platform, low: i128) -> Option<i128>
     }
 }
 
-#[tactic(auto, using(crate::proofs::OutsideLaws::add_outside))]
+/// The sum.
 fn add(t: IntType, p: Platform, a: i128, b: i128) -> Option<i128>
     ensures { result ≡ rules.fit t p (a +ℤ b) }
 {
@@ -71,7 +73,7 @@ fn add(t: IntType, p: Platform, a: i128, b: i128) -> Option<i128>
     }
 }
 
-#[tactic(auto, using(crate::proofs::OutsideLaws::subtract_outside))]
+/// The difference.
 fn subtract(t: IntType, p: Platform, a: i128, b: i128) -> Option<i128>
     ensures { result ≡ rules.fit t p (a -ℤ b) }
 {
@@ -81,7 +83,7 @@ fn subtract(t: IntType, p: Platform, a: i128, b: i128) -> Option<i128>
     }
 }
 
-#[tactic(auto, using(crate::proofs::OutsideLaws::multiply_outside))]
+/// The product.
 fn multiply(t: IntType, p: Platform, a: i128, b: i128) -> Option<i128>
     ensures { result ≡ rules.fit t p (a *ℤ b) }
 {
@@ -91,7 +93,7 @@ fn multiply(t: IntType, p: Platform, a: i128, b: i128) -> Option<i128>
     }
 }
 
-#[tactic(auto, using(crate::proofs::OutsideLaws::negate_outside))]
+/// The negated value.
 fn negate(t: IntType, p: Platform, a: i128) -> Option<i128>
     ensures { result ≡ rules.fit t p (neg_ℤ a) }
 {
@@ -101,7 +103,7 @@ fn negate(t: IntType, p: Platform, a: i128) -> Option<i128>
     }
 }
 
-#[tactic(auto, using(crate::proofs::QuotientLaws::over_minus_one))]
+/// The quotient, without its fraction.
 fn divide(t: IntType, p: Platform, a: i128, b: i128) -> Option<i128>
     ensures { result ≡ rules.divide t p a b }
 {
@@ -112,7 +114,7 @@ fn divide(t: IntType, p: Platform, a: i128, b: i128) -> Option<i128>
     }
 }
 
-#[tactic(auto, using(crate::proofs::QuotientLaws::rest_is))]
+/// What a division leaves.
 fn remainder(t: IntType, p: Platform, a: i128, b: i128) -> Option<i128>
     ensures { result ≡ rules.remainder t p a b }
 {
@@ -136,9 +138,9 @@ fn shift_count(t: IntType, p: Platform, count: i128) -> Option<u32>
     }
 }
 
-/// Whether `<<` is undefined whatever the count is.
-fn is_shifted_never(t: IntType, a: i128) -> bool
-    ensures { result ≡ rules.is_shifted_never (types.kind t) a }
+/// Whether the value is one that `<<` is undefined at, whatever the count is.
+fn is_negative_of_signed(t: IntType, a: i128) -> bool
+    ensures { result ≡ rules.is_negative_of_signed (types.kind t) a }
 {
     match kind_of(t) {
         Kind::Signed => a < 0,
@@ -146,6 +148,7 @@ fn is_shifted_never(t: IntType, a: i128) -> bool
     }
 }
 
+/// Two to a power.
 fn power_of_two(exponent: u32) -> i128
     requires { exponent < 64 }
     ensures { result ≡ pos (2 ^ exponent) }
@@ -153,16 +156,18 @@ fn power_of_two(exponent: u32) -> i128
     1 << exponent
 }
 
+/// The value times two to the power of the count.
 fn shift_left(t: IntType, p: Platform, a: i128, b: i128) -> Option<i128>
     ensures { result ≡ rules.shift_left t p a b }
 {
     let count = shift_count(t, p, b)?;
-    if is_shifted_never(t, a) {
+    if is_negative_of_signed(t, a) {
         return None;
     }
     multiply(t, p, a, power_of_two(count))
 }
 
+/// The value divided by two to the power of the count, rounded down.
 fn shift_right(t: IntType, p: Platform, a: i128, b: i128) -> Option<i128>
     ensures { result ≡ rules.shift_right t p a b }
 {
@@ -170,7 +175,7 @@ fn shift_right(t: IntType, p: Platform, a: i128, b: i128) -> Option<i128>
     fit(t, p, a >> count)
 }
 
-#[tactic(auto, using(crate::proofs::QuotientLaws::complement_is))]
+/// The value with each bit turned.
 fn complement(t: IntType, p: Platform, a: i128) -> Option<i128>
     ensures { result ≡ rules.fit t p (neg_ℤ a -ℤ pos 1) }
 {
@@ -178,10 +183,17 @@ fn complement(t: IntType, p: Platform, a: i128) -> Option<i128>
 }
 
 /// The bits of a value in two's complement.
-fn pattern(w: Width, value: i128) -> u64
-    ensures { result ≡ rules.pattern w value }
+fn pattern(t: IntType, p: Platform, value: i128) -> u64
+    ensures { result ≡ rules.pattern (types.width t p) value }
 {
-    low_bits(w, value) as u64
+    low_bits(width_of(t, p), value) as u64
+}
+
+/// The value of the type that has these bits.
+fn of_bits(t: IntType, p: Platform, bits: u64) -> Option<i128>
+    ensures { result ≡ Some (conversions.convert t p (pos bits)) }
+{
+    Some(convert(t, p, i128::from(bits)))
 }
 
 /// The value of a comparison.
@@ -193,10 +205,10 @@ fn truth(holds: bool) -> Option<i128>
 
 /// The result of an operator on two operands of type `t`, `None` exactly where C11 leaves it undefined
 /// (6.5p5, 6.5.5 to 6.5.12; for `Complement` and `Negate` 6.5.3.3).
+#[tactic(auto, unfolding(crate::specs::Arithmetic::arith))]
 pub fn arith(op: Op, t: IntType, p: Platform, a: i128, b: i128) -> Option<i128>
     ensures { result ≡ rules.arith op t p a b }
 {
-    let w = width_of(t, p);
     match op {
         Op::Multiply => multiply(t, p, a, b),
         Op::Divide => divide(t, p, a, b),
@@ -205,9 +217,9 @@ pub fn arith(op: Op, t: IntType, p: Platform, a: i128, b: i128) -> Option<i128>
         Op::Subtract => subtract(t, p, a, b),
         Op::ShiftLeft => shift_left(t, p, a, b),
         Op::ShiftRight => shift_right(t, p, a, b),
-        Op::BitAnd => Some(convert(t, p, i128::from(pattern(w, a) & pattern(w, b)))),
-        Op::BitXor => Some(convert(t, p, i128::from(pattern(w, a) ^ pattern(w, b)))),
-        Op::BitOr => Some(convert(t, p, i128::from(pattern(w, a) | pattern(w, b)))),
+        Op::BitAnd => of_bits(t, p, pattern(t, p, a) & pattern(t, p, b)),
+        Op::BitXor => of_bits(t, p, pattern(t, p, a) ^ pattern(t, p, b)),
+        Op::BitOr => of_bits(t, p, pattern(t, p, a) | pattern(t, p, b)),
         Op::Complement => complement(t, p, a),
         Op::Negate => negate(t, p, a),
         Op::Less => truth(a < b),

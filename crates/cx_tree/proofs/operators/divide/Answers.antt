@@ -1,7 +1,6 @@
-use Rattle.std.proofs.Common.{rules, ◌≡◌, ℕ, ◌<◌, ◌^◌, pos, negsuc, ◌+ℤ◌, ◌-ℤ◌, ◌*ℤ◌, neg_ℤ, ℤ, FitsSigned, to_z, of_z, ◌∙◌, ap, sym, arith, int_div, int_rem, Some, option_and_then}
+use Rattle.std.proofs.Common.{◌≡◌, pos, negsuc, FitsSigned, ◌∙◌, arith}
 use Rattle.std.proofs.lemmas.Int.{ints, to_z-of_z}
 use Rattle.std.specs.Int.{w128}
-use Rattle.cx_tree.specs.Arithmetic.{fit, divide, remainder}
 use Rattle.cx_tree.proofs.QuotientLaws.{divide_minus_one, divide_other}
 use Rattle.cx_tree.proofs.operators.divide.Goals as goal
 use Rattle.cx_tree.proofs.operators.divide.Goals.{in_default-via-then-b-ltminus1, in_default-via-else-b-ltminus1+else-b-lt0+else-b-lt1}

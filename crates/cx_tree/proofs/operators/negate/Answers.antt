@@ -1,7 +1,6 @@
-use Rattle.std.proofs.Common.{rules, ◌≡◌, ℕ, ◌<◌, ◌^◌, pos, negsuc, ◌+ℤ◌, ◌-ℤ◌, ◌*ℤ◌, neg_ℤ, ℤ, FitsSigned, to_z, of_z, ◌∙◌, ap, sym, arith, int_div, int_rem, Some, option_and_then}
-use Rattle.std.proofs.lemmas.Int.{ints, to_z-of_z}
+use Rattle.std.proofs.Common.{rules, FitsSigned, ◌∙◌, ap}
+use Rattle.std.proofs.lemmas.Int.{to_z-of_z}
 use Rattle.std.specs.Int.{w128}
-use Rattle.cx_tree.specs.Arithmetic.{fit, divide, remainder}
 use Rattle.cx_tree.specs.Outside.{fit_outside}
 use Rattle.cx_tree.proofs.OutsideLaws.{negate_outside}
 use Rattle.cx_tree.proofs.operators.negate.Goals as goal

@@ -1,7 +1,7 @@
-use Rattle.std.proofs.Common.{rules, ◌≡◌, ℕ, ◌<◌, ◌^◌, pos, negsuc, ◌+ℤ◌, ◌-ℤ◌, ◌*ℤ◌, neg_ℤ, ℤ, FitsSigned, to_z, of_z, ◌∙◌, ap, sym, arith, int_div, int_rem, Some, option_and_then}
-use Rattle.std.proofs.lemmas.Int.{ints, to_z-of_z}
+use Rattle.std.proofs.Common.{rules, FitsSigned, ◌∙◌, ap}
+use Rattle.std.proofs.lemmas.Int.{to_z-of_z}
 use Rattle.std.specs.Int.{w128}
-use Rattle.cx_tree.specs.Arithmetic.{fit, divide, remainder}
+use Rattle.cx_tree.specs.Arithmetic.{fit}
 use Rattle.cx_tree.proofs.QuotientLaws.{rest_is, remainder_where}
 use Rattle.cx_tree.proofs.operators.remainder.Goals as goal
 
