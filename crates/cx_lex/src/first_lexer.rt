@@ -315,7 +315,10 @@ mod tests {
             let found = lex_first(rt.alloc(), text.as_bytes()).expect(&rt, "memory");
             let shown = match &found {
                 None => format!(in rt.alloc(); "none"),
-                Some(pieces) => shown(rt.alloc(), pieces.as_slice()),
+                Some(pieces) => {
+                    let copy = pieces.copy().expect(&rt, "memory");
+                    shown(rt.alloc(), copy.as_slice())
+                }
             };
             assert_eq!(rt; shown.expect(&rt, "memory").as_str(), expected, "at {text}");
         }
