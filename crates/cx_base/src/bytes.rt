@@ -1,8 +1,9 @@
 //! Bytes, as a file or an output holds them.
-ghost use Rattle.std.specs.Prelude.{◌≡◌, [], ◌++◌, ◌∷◌, length, IfOk, OnOk, OnErr};
+ghost use Rattle.std.specs.Prelude.{◌≡◌, [], ◌++◌, decimal, length, IfOk, OnOk, OnErr};
 
 use crate::errors::NoMemory;
 use crate::list::Duplicate;
+use itoa::Buffer;
 use std::alloc::Global;
 use std::marker::Model;
 
@@ -64,6 +65,15 @@ impl Bytes {
     {
         self.bytes.extend_from_slice(more)?;
         Ok(())
+    }
+
+    /// Adds a number at the end, in decimal digits; a refused call changes nothing.
+    pub fn push_number(&mut self, number: u32) -> Result<(), NoMemory>
+        ensures ok { OnOk result (self.new ≡ self.old ++ decimal number) }
+        ensures err { OnErr result (self.new ≡ self.old) }
+    {
+        let mut buffer = Buffer::new();
+        self.push_all(buffer.format(number).as_bytes())
     }
 
     pub fn copy(&self) -> Result<Bytes, NoMemory>

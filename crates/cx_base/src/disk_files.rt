@@ -10,13 +10,14 @@ use crate::list::List;
 use crate::outside::Files;
 use crate::path::Path;
 use std::alloc::Global;
+use std::fs::DirEntry;
 use std::io::{ErrorKind, Read};
 use std::{fs, io, rt};
 
 /// The files and folders of the system. Each call that fails raises their count.
 ///
 /// A path through a file, a name with a byte 0 and a broken link are as nothing; any other failure
-/// of the system is a fault.
+/// of the system is a fault. Names in a folder that are not UTF-8 are passed over.
 #[derive(Drop)]
 pub struct DiskFiles<R: rt::Files + AllocGlobal + Clone + Drop> {
     rt: R,
@@ -87,6 +88,23 @@ fn read_file<R: rt::Files + AllocGlobal + Clone>(
     Ok(Some(bytes))
 }
 
+// A member of a folder, and None where its name is no text.
+fn member<R: rt::Files + AllocGlobal + Clone>(
+    rt: &R,
+    found: io::Result<DirEntry<R>>,
+) -> io::Result<Option<Entry>> {
+    let member = match found {
+        Ok(member) => member,
+        Err(error) if error.kind() == ErrorKind::InvalidFilename => return Ok(None),
+        Err(error) => return Err(error),
+    };
+    let folder = matches!(is_folder(rt, member.path().as_str()), Ok(Some(true)));
+    match Path::from_str(rt.alloc(), member.file_name()) {
+        Ok(name) => Ok(Some(Entry { name, folder })),
+        Err(_) => Err(io::Error::from(ErrorKind::OutOfMemory)),
+    }
+}
+
 fn read_folder<R: rt::Files + AllocGlobal + Clone>(
     rt: &R,
     path: &str,
@@ -95,13 +113,10 @@ fn read_folder<R: rt::Files + AllocGlobal + Clone>(
         return Ok(None);
     }
     let mut entries = Vec::new(rt.alloc());
-    for entry in fs::read_dir(rt, path)? {
-        let entry = entry?;
-        let folder = matches!(is_folder(rt, entry.path().as_str()), Ok(Some(true)));
-        let name = Path::from_str(rt.alloc(), entry.file_name()).map_err(|_| io::Error::from(
-            ErrorKind::OutOfMemory,
-        ))?;
-        entries.push(Entry { name, folder })?;
+    for found in fs::read_dir(rt, path)? {
+        if let Some(entry) = member(rt, found)? {
+            entries.push(entry)?;
+        }
     }
     Ok(Some(List::from_vec(entries)))
 }

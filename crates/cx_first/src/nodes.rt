@@ -7,7 +7,6 @@ ghost use Rattle.cx_first.specs.Nodes as meaning;
 
 use crate::tree::{Expr, FirstText, Operator, Statement};
 use cx_base::{NoMemory, Place, Text};
-use itoa::Buffer;
 use std::alloc::Global;
 
 /// A node of an expression: its place, and its text without the spaces and comments between tokens.
@@ -73,14 +72,6 @@ fn place_of(expr: &Expr) -> Place
     }
 }
 
-/// Adds a number in decimal digits.
-fn push_number(text: &mut Text, value: u32) -> Result<(), NoMemory>
-    ensures { OnOk result (text.new ≡ text.old ++ decimal value) }
-{
-    let mut buffer = Buffer::new();
-    text.push_all(buffer.format(value).as_bytes())
-}
-
 /// Adds the name of a variable.
 fn push_name(text: &mut Text, names: &[Text], variable: u32) -> Result<(), NoMemory>
     ensures { OnOk result (text.new ≡ text.old ++ meaning.name_of names.now variable) }
@@ -109,7 +100,7 @@ fn push_text(text: &mut Text, names: &[Text], expr: &Expr) -> Result<(), NoMemor
     ensures { OnOk result (text.new ≡ text.old ++ meaning.text_of names.now (tree_of expr.now)) }
 {
     match expr {
-        Expr::Number { value, .. } => push_number(text, *value),
+        Expr::Number { value, .. } => text.push_number(*value),
         Expr::Variable { variable, .. } => push_name(text, names, *variable),
         Expr::Negation { operand, .. } => {
             text.push_all(b"-")?;

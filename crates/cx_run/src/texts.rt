@@ -3,24 +3,16 @@ ghost use Rattle.std.specs.Prelude.{◌≡◌, ◌++◌, codes, decimal, option_
 ghost use Rattle.cx_run.specs.Texts.{finding_line, first_word, message, place_in};
 
 use cx_base::{Bytes, Finding, Id, NoMemory, Path, Place, Word};
-use itoa::Buffer;
 use std::alloc::Global;
-
-fn push_number(line: &mut Bytes, number: u32) -> Result<(), NoMemory>
-    ensures { OnOk result (line.new ≡ line.old ++ decimal number) }
-{
-    let mut buffer = Buffer::new();
-    line.push_all(buffer.format(number).as_bytes())
-}
 
 // The line and column of a place, behind its file.
 fn push_line_and_column(line: &mut Bytes, place: Place) -> Result<(), NoMemory>
     ensures { OnOk result (line.new ≡ line.old ++ codes ":" ++ decimal place.line ++ codes ":" ++ decimal place.column) }
 {
     line.push_all(b":")?;
-    push_number(line, place.line)?;
+    line.push_number(place.line)?;
     line.push_all(b":")?;
-    push_number(line, place.column)?;
+    line.push_number(place.column)?;
     Ok(())
 }
 
