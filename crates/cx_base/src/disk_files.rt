@@ -25,7 +25,10 @@ pub struct DiskFiles<R: rt::Files + AllocGlobal + Clone + Drop> {
 }
 
 impl<R: rt::Files + AllocGlobal + Clone + Drop> DiskFiles<R> {
-    pub fn new(rt: R) -> DiskFiles<R> {
+    /// The files of the system, of which no call failed yet.
+    pub fn new(rt: R) -> DiskFiles<R>
+        ensures { ⟦<DiskFiles<R> as Files>⟧.faults result ≡ 0 }
+    {
         DiskFiles { rt, faults: 0 }
     }
 

@@ -1,5 +1,5 @@
 //! The real streams of the program: the trusted edge, which tells no contents.
-ghost use Rattle.std.specs.Prelude.{None};
+ghost use Rattle.std.specs.Prelude.{◌≡◌, None};
 
 use crate::errors::Lost;
 use crate::outside::Sink;
@@ -13,7 +13,10 @@ pub struct StdSink<W: Write + Drop> {
 }
 
 impl<W: Write + Drop> StdSink<W> {
-    pub fn new(writer: W) -> StdSink<W> {
+    /// The stream, of which no call failed yet.
+    pub fn new(writer: W) -> StdSink<W>
+        ensures { ⟦<StdSink<W> as Sink>⟧.faults result ≡ 0 }
+    {
         StdSink { writer, faults: 0 }
     }
 }
