@@ -4,6 +4,7 @@ use cx_base::{
     Stored, Text, Word, can_stand, is_simple,
 };
 use std::alloc::Global;
+use std::process::Abort;
 use std::test::Fail;
 
 /// Paths, and whether they are simple.
@@ -114,38 +115,74 @@ fn files_stand_side_by_side(rt: HostRuntime) -> Result<(), Fail> {
     Ok(())
 }
 
+// Lists a folder, and compares what it gives.
+fn try_list(
+    rt: &(impl Abort + AllocGlobal),
+    files: &mut MemoryFiles,
+    folder: &'static str,
+    members: Option<&'static str>,
+) -> Result<(), Fail> {
+    let path = Path::from_str(rt.alloc(), folder)?;
+    let Ok(listed) = files.list(&path) else {
+        return Err(Fail::from("a list that failed"));
+    };
+    let Some(entries) = listed else {
+        assert!(rt; members.is_none(), "{folder}");
+        return Ok(());
+    };
+    let text = members_text(rt.alloc(), entries.as_slice())?;
+    assert!(rt;
+        text.as_slice() == members.unwrap_or("none").as_bytes(),
+        "{folder}"
+    );
+    Ok(())
+}
+
 #[test]
 fn folders_have_their_members_in_order(rt: HostRuntime) -> Result<(), Fail> {
     let mut files = files_in_memory(rt.alloc(), &FILES)?;
     for (folder, members) in FOLDERS {
-        let path = Path::from_str(rt.alloc(), folder)?;
-        match (files.list(&path), members) {
-            (Ok(Some(entries)), Some(members)) => {
-                let text = members_text(rt.alloc(), entries.as_slice())?;
-                assert!(rt; text.as_slice() == members.as_bytes(), "{folder}");
-            }
-            (Ok(None), None) => {}
-            _ => return Err(Fail::from(folder)),
-        }
+        try_list(&rt, &mut files, folder, members)?;
     }
+    Ok(())
+}
+
+/// Reads of files: how many bytes at most, and what they give.
+const READS: [(&str, u64, Option<&str>); 4] = [
+    ("d/b.c", 3, Some("d/b")),
+    ("d/b.c", 9, Some("d/b.c")),
+    ("d", 9, None),
+    ("x", 9, None),
+];
+
+// Reads a file, and compares what it gives.
+fn try_read(
+    rt: &(impl Abort + AllocGlobal),
+    files: &mut MemoryFiles,
+    path: &'static str,
+    most: u64,
+    front: Option<&'static str>,
+) -> Result<(), Fail> {
+    let name = Path::from_str(rt.alloc(), path)?;
+    let Ok(got) = files.read(&name, most) else {
+        return Err(Fail::from("a read that failed"));
+    };
+    let Some(bytes) = got else {
+        assert!(rt; front.is_none(), "{path}");
+        return Ok(());
+    };
+    assert!(rt;
+        bytes.as_slice() == front.unwrap_or("none").as_bytes(),
+        "{path}"
+    );
     Ok(())
 }
 
 #[test]
 fn files_give_their_front(rt: HostRuntime) -> Result<(), Fail> {
     let mut files = files_in_memory(rt.alloc(), &FILES)?;
-    for (path, most, front) in [
-        ("d/b.c", 3, Some("d/b")),
-        ("d/b.c", 9, Some("d/b.c")),
-        ("d", 9, None),
-        ("x", 9, None),
-    ] {
-        let path = Path::from_str(rt.alloc(), path)?;
-        match (files.read(&path, most), front) {
-            (Ok(Some(bytes)), Some(front)) => assert!(rt; bytes.as_slice() == front.as_bytes()),
-            (Ok(None), None) => {}
-            _ => return Err(Fail::from("another answer")),
-        }
+    for (path, most, front) in READS {
+        try_read(&rt, &mut files, path, most, front)?;
     }
     Ok(())
 }
