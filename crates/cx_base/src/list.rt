@@ -12,6 +12,12 @@ pub trait Duplicate: Sized {
         ensures { IfOk result (λ x. x ≡ self.now) };
 }
 
+impl Duplicate for usize {
+    fn duplicate(&self) -> Result<usize, NoMemory> {
+        Ok(*self)
+    }
+}
+
 /// A growable list, which contracts see as the list of its members.
 #[derive(Debug, Drop)]
 pub struct List<T> {

@@ -1,7 +1,7 @@
 -- The grammar's expressions taken apart and put together, as the reader does.
 use Rattle.std.proofs.Common.{◌≡◌, ℕ, ◌+◌, ◌<◌, ◌≤◌, List, [], ◌∷◌, Some, refl, sym, ◌∙◌, ap, subst, arith}
 use Rattle.cx_base.specs.declared.place.Place.{Place}
-use Rattle.cx_lex.specs.declared.token.Piece.{Piece}
+use Rattle.cx_lex.specs.declared.piece.Piece.{Piece}
 use Rattle.cx_first.specs.declared.tree.Expr.{Expr}
 use Rattle.cx_first.specs.declared.tree.Expr.TheVariants.{Number, Variable, Negation, Binary, Brackets}
 use Rattle.cx_first.specs.declared.tree.Operator.{Operator}

@@ -1,7 +1,7 @@
 -- A text's head and body taken apart and put together, as the reader does.
 use Rattle.std.proofs.Common.{◌≡◌, ℕ, true, false, List, [], ◌∷◌, ◌++◌, map, Option, Some, None, MatchOption, IfNone, refl, sym, ◌∙◌, ap, append_assoc}
 use Rattle.std.proofs.lemmas.List.{map-append}
-use Rattle.cx_lex.specs.declared.token.Piece.{Piece}
+use Rattle.cx_lex.specs.declared.piece.Piece.{Piece}
 use Rattle.cx_first.specs.declared.tree.Statement.{Statement}
 use Rattle.cx_first.specs.declared.signs.Sign.{Sign}
 use Rattle.cx_first.specs.declared.signs.Sign.TheVariants as sign_is

@@ -1,7 +1,7 @@
 -- A tree has at most as many nodes and brackets as pieces, and a text at most as many statements.
 use Rattle.std.proofs.Common.{ℕ, ◌+◌, ◌<◌, ◌≤◌, ◌^◌, List, length, All, Option, IfSome, ap, arith, length-append}
 use Rattle.std.proofs.lemmas.List.Elements.{All-cons}
-use Rattle.cx_lex.specs.declared.token.Piece.{Piece}
+use Rattle.cx_lex.specs.declared.piece.Piece.{Piece}
 use Rattle.cx_first.specs.declared.signs.Sign.{Sign}
 use Rattle.cx_first.specs.declared.statements.Awaits.{Awaits}
 use Rattle.cx_first.specs.Tree.{Tree, Form, Source}

@@ -1,7 +1,7 @@
 -- The grammar's statements taken apart and put together, as the reader does.
 use Rattle.std.proofs.Common.{◌≡◌, ℕ, true, List, [], ◌∷◌, ◌++◌, length, Option, Some, None, refl, sym, ◌∙◌, subst}
 use Rattle.cx_base.specs.declared.place.Place.{Place}
-use Rattle.cx_lex.specs.declared.token.Piece.{Piece}
+use Rattle.cx_lex.specs.declared.piece.Piece.{Piece}
 use Rattle.cx_first.specs.declared.signs.Sign.{Sign}
 use Rattle.cx_first.specs.declared.signs.Sign.TheVariants as sign_is
 use Rattle.cx_first.specs.declared.statements.Awaits.{Awaits}

@@ -1,6 +1,6 @@
 -- The grammar of first texts (C11 6.5.1, 6.5.3, 6.5.5, 6.5.6, 6.7, 6.8 and 6.9.1, cut to one function of int).
 use Rattle.std.specs.Prelude.{◌≡◌, ◌≢◌, ℕ, ◌+◌, ◌≤◌, List, [], ◌∷◌, ◌++◌, length, Option, Some, None}
-use Rattle.cx_lex.specs.declared.token.Piece.{Piece}
+use Rattle.cx_lex.specs.declared.piece.Piece.{Piece}
 use Rattle.cx_first.specs.declared.tree.Operator.{Operator}
 use Rattle.cx_first.specs.declared.tree.Operator.TheVariants.{Add, Subtract, Multiply, Divide}
 use Rattle.cx_first.specs.declared.signs.Sign.{Sign}

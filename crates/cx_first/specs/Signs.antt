@@ -2,9 +2,9 @@
 use Rattle.std.specs.Prelude.{ℕ, Bool, false, not, ◌&&◌, ◌==◌, nat_le, nat_lt, length, if◌then◌else◌, List, [], ◌∷◌, bytes_eq, codes}
 use Rattle.std.specs.Borrow.{Bor}
 use Rattle.std.specs.List.{list_all, list_any}
-use Rattle.cx_lex.specs.declared.token.Kind.{Kind}
-use Rattle.cx_lex.specs.declared.token.Kind.TheVariants as kind
-use Rattle.cx_lex.specs.declared.token.Piece.{Piece}
+use Rattle.cx_tokens.specs.declared.token.Kind.{Kind}
+use Rattle.cx_tokens.specs.declared.token.Kind.TheVariants as kind
+use Rattle.cx_lex.specs.declared.piece.Piece.{Piece}
 use Rattle.cx_lex.specs.Characters.{is_digit}
 use Rattle.cx_lex.specs.Forms.{number_of, greatest}
 use Rattle.cx_first.specs.declared.signs.Sign.{Sign}

@@ -1,7 +1,7 @@
 //! Expressions from pieces, by recursive descent. An expression is at most as deep as it has
 //! pieces, and these are counted before the descent.
 ghost use Rattle.std.specs.Prelude.{◌≡◌, ◌≤◌, ◌<◌, ℕ, List as Items, [], ◌∷◌, length, IfOk, IfSome, IfNone, IsSomeAnd, None, Some, MatchOption};
-ghost use Rattle.cx_lex.specs.declared.token.Piece.{Piece};
+ghost use Rattle.cx_lex.specs.declared.piece.Piece.{Piece};
 ghost use Rattle.cx_first.specs.Tree as tree;
 ghost use Rattle.cx_first.specs.Grammar.{Reads, Chains, operator_of, level_of};
 ghost use Rattle.cx_first.specs.Signs.{sign};

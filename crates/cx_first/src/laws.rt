@@ -1,6 +1,6 @@
 //! Laws of first texts and their runs, each by the contract of a function that does nothing.
 ghost use Rattle.std.specs.Prelude.{◌≡◌, ℕ, List};
-ghost use Rattle.cx_lex.specs.declared.token.Piece.{Piece};
+ghost use Rattle.cx_lex.specs.declared.piece.Piece.{Piece};
 ghost use Rattle.cx_first.specs.declared.evaluation.Undefined.{Undefined};
 ghost use Rattle.cx_first.specs.Tree.{Source};
 ghost use Rattle.cx_first.specs.Grammar.{IsFirstText};

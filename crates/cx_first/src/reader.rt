@@ -1,6 +1,6 @@
 //! First texts from pieces.
 ghost use Rattle.std.specs.Prelude.{◌≡◌, ◌≤◌, ◌<◌, List as Items, [], ◌∷◌, length, map, IfOk, IfSome, IfNone, IsSomeAnd};
-ghost use Rattle.cx_lex.specs.declared.token.Piece.{Piece};
+ghost use Rattle.cx_lex.specs.declared.piece.Piece.{Piece};
 ghost use Rattle.cx_first.specs.Tree.{Form, Source, form_of, source_of};
 ghost use Rattle.cx_first.specs.Names.{Names as NamesSoFar};
 ghost use Rattle.cx_first.specs.Grammar.{Body, ReadsText, IsFirstText};

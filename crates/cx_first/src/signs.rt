@@ -4,7 +4,8 @@ ghost use Rattle.cx_first.specs.Signs as meaning;
 ghost use Rattle.cx_first.specs.Descent.{SignAt, NoSign};
 
 use crate::keywords::{equals, is_keyword};
-use cx_lex::{Kind, Piece, number_value};
+use cx_lex::{Piece, number_value};
+use cx_tokens::Kind;
 
 /// The sign of a piece: all that the grammar asks of it but its text and its place.
 #[derive(Clone, Copy, Debug, PartialEq, Eq)]

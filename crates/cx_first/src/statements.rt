@@ -1,6 +1,6 @@
 //! Statements and declarators from pieces, one at a time.
 ghost use Rattle.std.specs.Prelude.{◌≡◌, ◌≤◌, ◌<◌, ◌+◌, ℕ, List as Items, [], ◌∷◌, ◌++◌, length, IfOk, IfSome, IfNone, IsSomeAnd, IsTrue, Option as Maybe, None, Some, option_map};
-ghost use Rattle.cx_lex.specs.declared.token.Piece.{Piece};
+ghost use Rattle.cx_lex.specs.declared.piece.Piece.{Piece};
 ghost use Rattle.cx_first.specs.Tree.{Tree, Form, tree_of, form_of};
 ghost use Rattle.cx_first.specs.Names.{Names as NamesSoFar, index_of};
 ghost use Rattle.cx_first.specs.Grammar.{Expression, Initialiser, Declarator, Simple, Reading, IsNew, follows};

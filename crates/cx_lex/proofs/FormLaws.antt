@@ -4,8 +4,8 @@ use Rattle.std.specs.List.{list_all, list_any}
 use Rattle.std.proofs.lemmas.Bool.{cond-true, cond-false, and_parts, and_from, both_ways, or_cases, eqb-true, cases_Bool}
 use Rattle.std.proofs.lemmas.Bool.Decides.{nat_tests}
 use Rattle.std.proofs.lemmas.List.Folds.{list_all-append}
-use Rattle.cx_lex.specs.declared.token.Kind.{Kind}
-use Rattle.cx_lex.specs.declared.token.Kind.TheVariants.{Name, Number, Punct}
+use Rattle.cx_tokens.specs.declared.token.Kind.{Kind}
+use Rattle.cx_tokens.specs.declared.token.Kind.TheVariants.{Name, Number, Punct}
 use Rattle.cx_lex.specs.Characters.{is_blank, is_digit, is_mark, is_newline, is_nondigit, is_word}
 use Rattle.cx_lex.specs.Cut.{is_pair, joins, kind_of, starts_number, value_of}
 use Rattle.cx_lex.specs.Forms.{BeginsWithDigit, GoesOn, IsIntConstant, IsIdentifier, IsLongest, IsPermitted, IsToken, goes_on, punctuators}

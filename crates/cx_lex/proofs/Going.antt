@@ -5,7 +5,7 @@ use Rattle.cx_lex.specs.declared.first_lexer.Lexer.{Lexer}
 use Rattle.cx_lex.specs.declared.first_lexer.State.{State}
 use Rattle.cx_lex.specs.declared.first_lexer.State.TheVariants.{Between}
 use Rattle.cx_lex.specs.declared.spot.Spot.{Spot}
-use Rattle.cx_lex.specs.declared.token.Piece.{Piece}
+use Rattle.cx_lex.specs.declared.piece.Piece.{Piece}
 use Rattle.cx_base.specs.declared.place.Place.{Place}
 use Rattle.cx_lex.specs.Characters.{is_newline, is_word}
 use Rattle.cx_lex.specs.Cut.{closed, cut, extended, going, joined, mark_of, next}

@@ -1,6 +1,6 @@
 -- Lists of pieces that may be refused, one behind the other.
 use Rattle.std.proofs.Common.{◌≡◌, List, [], ◌++◌, Option, Some, None, refl, ap, append_assoc, append-nil}
-use Rattle.cx_lex.specs.declared.token.Piece.{Piece}
+use Rattle.cx_lex.specs.declared.piece.Piece.{Piece}
 use Rattle.cx_lex.specs.Cut.{joined}
 
 pub joined_assoc : (a b c : Option (List Piece)) → joined (joined a b) c ≡ joined a (joined b c)

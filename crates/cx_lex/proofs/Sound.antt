@@ -7,9 +7,9 @@ use Rattle.std.proofs.lemmas.Bool.Decides.{nat_tests}
 use Rattle.cx_lex.specs.declared.first_lexer.State.{State}
 use Rattle.cx_lex.specs.declared.first_lexer.State.TheVariants.{Between, Word}
 use Rattle.cx_lex.specs.declared.spot.Spot.{Spot}
-use Rattle.cx_lex.specs.declared.token.Kind.{Kind}
-use Rattle.cx_lex.specs.declared.token.Kind.TheVariants.{Punct}
-use Rattle.cx_lex.specs.declared.token.Piece.{Piece}
+use Rattle.cx_tokens.specs.declared.token.Kind.{Kind}
+use Rattle.cx_tokens.specs.declared.token.Kind.TheVariants.{Punct}
+use Rattle.cx_lex.specs.declared.piece.Piece.{Piece}
 use Rattle.cx_lex.specs.Characters.{is_blank, is_digit, is_mark, is_newline, is_nondigit, in_alphabet, is_word}
 use Rattle.cx_lex.specs.Cut.{closed, cut, extended, is_pair, joined, joins, kind_of, mark_of, next, one_piece, piece_of}
 use Rattle.cx_lex.specs.Pieces.{BeginsWith, FirstPieces, Pieces, behind, start}
@@ -67,6 +67,7 @@ word_front begins c cs rest kind ps a k s r =
         permitted = f.1;
         place = refl;
         hide = refl;
+        parts = refl;
         space = sym (or_false begins.space);
         first_on_line = sym (or_false begins.first_on_line);
       },
@@ -87,6 +88,7 @@ mark_front spot b rest ps m j r = (
     permitted = refl;
     place = refl;
     hide = refl;
+    parts = refl;
     space = sym (or_false spot.space);
     first_on_line = sym (or_false spot.first_on_line);
   },
@@ -117,6 +119,7 @@ blank_front spot b rest (p ∷ ps) h r = (
     permitted = r.2.permitted;
     place = r.2.place;
     hide = r.2.hide;
+    parts = r.2.parts;
     space = space_on p.token.space spot.space (is_blank b) (list_any is_blank r.0) h r.2.space;
     first_on_line = first_on p.first_on_line spot.first_on_line (is_blank b) (is_newline b) (list_any is_newline r.0) h r.2.first_on_line;
   },

@@ -1,8 +1,8 @@
 -- The forms of preprocessing tokens, and those that the language permits.
 use Rattle.std.specs.Prelude.{◌≡◌, ℕ, ◌+◌, ◌-◌, ◌*◌, ◌≤◌, List, [], ◌∷◌, ◌++◌, Bool, true, ◌&&◌, ◌||◌, ◌⊎◌, length, fold, Contains, codes}
 use Rattle.std.specs.List.{list_all}
-use Rattle.cx_lex.specs.declared.token.Kind.{Kind}
-use Rattle.cx_lex.specs.declared.token.Kind.TheVariants.{Name, Number, Punct}
+use Rattle.cx_tokens.specs.declared.token.Kind.{Kind}
+use Rattle.cx_tokens.specs.declared.token.Kind.TheVariants.{Name, Number, Punct}
 use Rattle.cx_lex.specs.Characters.{is_digit, is_nondigit, is_one_of, is_word}
 
 -- an identifier: a nondigit, then nondigits and digits (C11 6.4.2.1)

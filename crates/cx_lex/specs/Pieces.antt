@@ -3,7 +3,7 @@ use Rattle.std.specs.Prelude.{◌≡◌, ℕ, ◌+◌, List, [], ◌∷◌, ◌+
 use Rattle.std.specs.List.{list_all, list_any}
 use Rattle.cx_base.specs.declared.place.Place.{Place}
 use Rattle.cx_lex.specs.declared.spot.Spot.{Spot}
-use Rattle.cx_lex.specs.declared.token.Piece.{Piece}
+use Rattle.cx_lex.specs.declared.piece.Piece.{Piece}
 use Rattle.cx_lex.specs.Characters.{is_blank, is_newline, in_alphabet}
 use Rattle.cx_lex.specs.Forms.{IsToken, IsLongest, IsPermitted}
 
@@ -35,6 +35,7 @@ pub record Front (spot : Spot) (text : List ℕ) (p : Piece) (gap rest : List �
   pub permitted : IsPermitted p.token.kind p.token.text
   pub place : p.token.place ≡ after spot.place gap
   pub hide : p.token.hide ≡ []
+  pub parts : p.token.parts ≡ []
   -- a blank stands directly before the piece
   pub space : p.token.space ≡ (spot.space || list_any is_blank gap)
   -- the text begins its line's pieces, or a newline stands in the gap

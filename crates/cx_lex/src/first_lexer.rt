@@ -2,17 +2,18 @@
 //! comment, no macro and no literal.
 ghost use Rattle.std.specs.Prelude.{◌≡◌, ℕ, ◌+◌, ◌<◌, ◌≤◌, ◌^◌, List as list, [], ◌∷◌, ◌++◌, Some, None, Option, IfOk, IfSome, IsTrue, OnOk, true, not, ◌&&◌, if◌then◌else◌, length, filter, flat_map};
 ghost use Rattle.cx_lex.specs.declared.first_lexer.State.TheVariants.{Between};
-ghost use Rattle.cx_lex.specs.declared.token.Kind.TheVariants.{Punct};
-ghost use Rattle.cx_lex.specs.declared.token.Piece.{Piece as piece};
+ghost use Rattle.cx_tokens.specs.declared.token.Kind.TheVariants.{Punct};
+ghost use Rattle.cx_lex.specs.declared.piece.Piece.{Piece as piece};
 ghost use Rattle.cx_lex.specs.Characters.{is_blank, is_mark, is_word};
 ghost use Rattle.cx_lex.specs.Cut.{closed, cut, extended, going, joined, joins, kind_of, mark_of, next, one_piece, piece_of, starts_number};
 ghost use Rattle.cx_lex.specs.Pieces.{FirstPieces, start};
 
 use crate::bytes::{first, is_blank, is_mark, is_pair, is_word};
 use crate::number::value_of;
+use crate::piece::Piece;
 use crate::spot::Spot;
-use crate::token::{Kind, Piece, Token};
 use cx_base::{List, NoMemory, Text};
+use cx_tokens::{Kind, Token};
 use std::alloc::Global;
 use std::mem;
 
@@ -235,6 +236,7 @@ fn piece_of(alloc: Global, spot: Spot, kind: Kind, text: Text) -> Piece
             place: spot.place,
             hide: List::new(alloc),
             space: spot.space,
+            parts: List::new(alloc),
         },
         first_on_line: spot.first_on_line,
     }

@@ -4,11 +4,11 @@
 
 pub use first_lexer::{lex_first, one_reading, pieces_are_the_text};
 pub use number::number_value;
+pub use piece::Piece;
 pub use spot::Spot;
-pub use token::{Kind, Piece, Token};
 
 mod bytes;
 mod first_lexer;
 mod number;
+mod piece;
 mod spot;
-mod token;

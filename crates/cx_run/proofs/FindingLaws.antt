@@ -2,9 +2,9 @@
 use Rattle.std.proofs.Common.{◌≡◌, ℕ, ◌<◌, ◌≤◌, List, [], ◌∷◌, ◌++◌, length, Some, arith, length-append, ap}
 use Rattle.cx_base.specs.declared.finding.Finding.{Finding}
 use Rattle.cx_lex.specs.declared.spot.Spot.{Spot}
-use Rattle.cx_lex.specs.declared.token.Kind.{Kind}
-use Rattle.cx_lex.specs.declared.token.Kind.TheVariants as kinds
-use Rattle.cx_lex.specs.declared.token.Piece.{Piece}
+use Rattle.cx_tokens.specs.declared.token.Kind.{Kind}
+use Rattle.cx_tokens.specs.declared.token.Kind.TheVariants as kinds
+use Rattle.cx_lex.specs.declared.piece.Piece.{Piece}
 use Rattle.cx_lex.specs.Forms.{IsToken, IsPermitted}
 use Rattle.cx_lex.specs.Pieces.{FirstPieces, Pieces, behind}
 use Rattle.cx_first.specs.declared.evaluation.Undefined.{Undefined}

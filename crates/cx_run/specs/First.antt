@@ -6,7 +6,7 @@ use Rattle.cx_base.specs.declared.finding.Word.TheVariants.{Text}
 use Rattle.cx_base.specs.declared.id.Id.{Id}
 use Rattle.cx_base.specs.declared.id.Id.TheVariants.{UninitVar, ZeroDiv, IntegerOverflow}
 use Rattle.cx_base.specs.declared.id.Severity.TheVariants.{Error}
-use Rattle.cx_lex.specs.declared.token.Piece.{Piece}
+use Rattle.cx_lex.specs.declared.piece.Piece.{Piece}
 use Rattle.cx_lex.specs.Pieces.{FirstPieces}
 use Rattle.cx_first.specs.declared.evaluation.Undefined.{Undefined}
 use Rattle.cx_first.specs.declared.evaluation.Undefined.TheVariants.{Uninitialized, ZeroDivisor, Overflow}

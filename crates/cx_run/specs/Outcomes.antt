@@ -5,7 +5,7 @@ use Rattle.cx_base.specs.declared.finding.Finding.{Finding}
 use Rattle.cx_run.specs.declared.deciding.Outcome.{Outcome}
 use Rattle.cx_run.specs.declared.deciding.Outcome.TheVariants.{Unit as A_unit, NoInput as No_input, NotBuilt as Not_built}
 use Rattle.cx_run.specs.declared.report.Cause.TheVariants.{Done, NoInput, NotBuilt}
-use Rattle.cx_lex.specs.declared.token.Piece.{Piece}
+use Rattle.cx_lex.specs.declared.piece.Piece.{Piece}
 use Rattle.cx_first.specs.Grammar.{IsFirstText}
 use Rattle.cx_first.specs.Tree.{Source}
 use Rattle.cx_run.specs.First.{Finds, IsFirst, Means}

@@ -1,5 +1,5 @@
 use Rattle.std.proofs.Common.{◌≤◌, ◌+◌, ◌*◌, List, length}
-use Rattle.cx_lex.specs.declared.token.Piece.{Piece}
+use Rattle.cx_lex.specs.declared.piece.Piece.{Piece}
 use Rattle.cx_first.specs.Tree.{Tree, tree_of}
 use Rattle.cx_first.specs.Grammar.{Chains}
 use Rattle.cx_first.specs.Descent.{Stops}

@@ -36,14 +36,9 @@ pub struct Token {
     pub hide: List<Text>,
     /// Whether a separator, a comment or a newline stands directly before it.
     pub space: bool,
-}
-
-/// A token as it stands in a source.
-#[derive(Debug, Drop)]
-pub struct Piece {
-    pub token: Token,
-    /// Whether no other piece stands before it on its line.
-    pub first_on_line: bool,
+    /// Of a string that was joined from several: how many bytes each of them has between its quotes,
+    /// in order, since an escape ends in its own string. Empty for every other token.
+    pub parts: List<usize>,
 }
 
 impl Token {
@@ -52,12 +47,14 @@ impl Token {
     {
         let text = self.text.copy()?;
         let hide = self.hide.copy()?;
+        let parts = self.parts.copy()?;
         Ok(Token {
             kind: self.kind,
             text,
             place: self.place,
             hide,
             space: self.space,
+            parts,
         })
     }
 }
@@ -68,20 +65,3 @@ impl Duplicate for Token {
     }
 }
 
-impl Piece {
-    pub fn copy(&self) -> Result<Piece, NoMemory>
-        ensures { IfOk result (λ p. p ≡ self.now) }
-    {
-        let token = self.token.copy()?;
-        Ok(Piece {
-            token,
-            first_on_line: self.first_on_line,
-        })
-    }
-}
-
-impl Duplicate for Piece {
-    fn duplicate(&self) -> Result<Piece, NoMemory> {
-        self.copy()
-    }
-}
