@@ -1,0 +1,11 @@
+pub mod CallLaws
+pub mod BoundLaws
+pub mod OutcomeLaws
+pub mod PieceLaws
+pub mod ListLaws
+pub mod PartLaws
+pub mod PastingLaws
+pub mod ProgressLaws
+pub mod StepLaws
+pub mod TableLaws
+pub mod UseLaws

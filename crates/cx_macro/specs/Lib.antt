@@ -1,5 +1,12 @@
+pub mod Answers
 pub mod Arguments
+pub mod Calls
 pub mod Expansion
 pub mod Hiding
 pub mod Macros
+pub mod Made
+pub mod Parts
 pub mod Replacement
+pub mod Steps
+pub mod Stored
+pub mod Uses

@@ -1,5 +1,5 @@
 -- What a macro is replaced by (C11 6.10.3.1 to 6.10.3.3).
-use Rattle.std.specs.Prelude.{◌≡◌, ℕ, List, [], ◌∷◌, ◌++◌, Bool, true, false, cond, ◌&&◌, ◌||◌, ◌==◌, Option, Some, None, is_some, flat_map, get_or, map, codes}
+use Rattle.std.specs.Prelude.{◌≡◌, ℕ, List, [], ◌∷◌, ◌++◌, Bool, true, false, not, cond, ◌&&◌, ◌||◌, ◌==◌, Option, Some, None, is_some, flat_map, get_or, map, codes}
 use Rattle.cx_tokens.specs.declared.token.Kind.{Kind}
 use Rattle.cx_tokens.specs.declared.token.Kind.TheVariants.{Char, String}
 use Rattle.cx_tokens.specs.declared.token.Token.{Token}
@@ -94,6 +94,10 @@ parts_of d raw expanded before (t ∷ ts) =
     (cond (is_operator d t) (parts_of d raw expanded (a_hash t) ts)
     (tokens (standing_for t (parameter_at d t) (cond (is_beside before ts) raw expanded)) ∷ parts_of d raw expanded other ts))
 
+abbrev pub is_index : ℕ → Option ℕ → Bool
+is_index i None = false
+is_index i (Some j) = i == j
+
 -- whether the parameter with an index stands somewhere not beside `#` or `##`
 unfoldable pub is_expanded : Definition → ℕ → Behind → List Token → Bool
 is_expanded d i before [] = false
@@ -101,13 +105,7 @@ is_expanded d i (a_hash hash) (t ∷ ts) = is_expanded d i other ts
 is_expanded d i before (t ∷ ts) =
     cond (is_paste t) (is_expanded d i a_paste ts)
     (cond (is_operator d t) (is_expanded d i (a_hash t) ts)
-    (((is_index i (parameter_at d t)) && not_beside before ts) || is_expanded d i other ts))
-  where
-    is_index : ℕ → Option ℕ → Bool
-    is_index i None = false
-    is_index i (Some j) = i == j
-    not_beside : Behind → List Token → Bool
-    not_beside before ts = cond (is_beside before ts) false true
+    ((is_index i (parameter_at d t) && not (is_beside before ts)) || is_expanded d i other ts))
 
 -- what a `##` makes of two tokens: one piece of both spellings, or None (C11 6.10.3.3, paragraph 3)
 pub data Joins (a b : Token) : Option Token → Type 0 where

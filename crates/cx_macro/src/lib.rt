@@ -2,5 +2,22 @@
 #![tactic(auto)]
 
 pub use fault::MacroFault;
+pub use laws::{nothing_is_replaced, one_outcome, the_bound_is_met};
+pub use macros::{Expanded, Macro, Macros};
 
+mod arguments;
+mod calls;
+mod expansion;
 mod fault;
+mod hiding;
+mod laws;
+mod lists;
+mod macros;
+mod marks;
+mod parts;
+mod pasting;
+mod replacing;
+mod spelling;
+mod stack;
+mod steps;
+mod stored;

@@ -1,0 +1,270 @@
+-- Brackets and arguments, token by token.
+use Rattle.std.proofs.Common.{◌≡◌, ℕ, zero, suc, ◌+◌, ◌-◌, List, [], ◌∷◌, ◌++◌, Bool, true, false, cond, ◌&&◌, ◌==◌, Option, Some, None, refl, sym, ◌∙◌, ap, subst, arith}
+use Rattle.std.proofs.lemmas.List.{append_assoc, append-nil}
+use Rattle.std.proofs.lemmas.Bool.Decides.{nat_tests}
+use Rattle.std.proofs.Common.{bytes_eq, codes, length, ◌*◌, ◌≤◌}
+use Rattle.std.proofs.lemmas.Slice.Eq.{bytes_eq-Decides}
+use Rattle.cx_tokens.specs.declared.token.Token.{Token}
+use Rattle.cx_tokens.specs.Brackets.{is_punct, is_punctuator}
+use Rattle.cx_macro.specs.Steps.{weights}
+use Rattle.cx_macro.specs.Arguments.{Bracketed, arguments_of, Cut, Named, bracketed, cut_at_comma, text_between, tokens_or_none, with_variable, is_close, is_comma, is_open, named_arguments, with_argument, with_front, with_inner}
+use Rattle.cx_macro.specs.Calls.{behind_arguments, behind_front, behind_inner, deeper}
+
+behind_inner-push : (front : List Token) (t : Token) (b : Option Bracketed) → behind_inner front (with_inner t b) ≡ behind_inner (front ++ t ∷ []) b
+behind_inner-push front t None = refl
+behind_inner-push front t (Some b) = ap (λ x. Some (record { inner = x; closing = b.closing; behind = b.behind })) (sym (append_assoc front (t ∷ []) b.inner))
+
+pub behind_inner-nil : (b : Option Bracketed) → behind_inner [] b ≡ b
+behind_inner-nil None = refl
+behind_inner-nil (Some b) = refl
+
+pub bracketed_end : (front : List Token) (depth : ℕ) → behind_inner front (bracketed depth []) ≡ None
+unfolding bracketed
+bracketed_end front depth = refl
+
+pub bracketed_close : (front : List Token) (depth : ℕ) (t : Token) (ts : List Token) → depth ≡ 0 → is_close t ≡ true
+    → behind_inner front (bracketed depth (t ∷ ts)) ≡ Some (record { inner = front; closing = t; behind = ts })
+unfolding bracketed
+bracketed_close front zero t ts e c = rw (c, append-nil front) refl
+bracketed_close front (suc d) t ts e c = absurd (omega arith)
+
+true_is_not_false : true ≡ false → ⊥
+true_is_not_false e = absurd cc
+
+is_open_is_not_close : (t : Token) → is_open t ≡ true → is_close t ≡ false
+unfolding is_punctuator
+is_open_is_not_close t e = not_close (is_punct t.kind) t.text e
+  where
+    not_close : (b : Bool) (text : List ℕ) → (b && bytes_eq (codes "(") text) ≡ true → (b && bytes_eq (codes ")") text) ≡ false
+    not_close false text e = refl
+    not_close true text e =
+        let same : codes "(" ≡ text = (bytes_eq-Decides (codes "(") text).0 e in
+        subst (λ x. bytes_eq (codes ")") x ≡ false) same refl
+
+pub bracketed_goes : (front : List Token) (depth : ℕ) (t : Token) (ts : List Token) → ((depth == 0) && is_close t) ≡ false
+    → behind_inner front (bracketed depth (t ∷ ts)) ≡ behind_inner (front ++ t ∷ []) (bracketed (deeper depth t) ts)
+unfolding bracketed deeper
+bracketed_goes front zero t ts e = step (is_close t) (is_open t) e
+  where
+    step : (close opened : Bool) → close ≡ false
+        → behind_inner front (cond close (Some (record { inner = []; closing = t; behind = ts })) (with_inner t (bracketed (cond opened 1 0) ts)))
+        ≡ behind_inner (front ++ t ∷ []) (bracketed (cond opened (0 + 1) (cond close (0 - 1) 0)) ts)
+    step true opened h = absurd cc
+    step false true h = behind_inner-push front t (bracketed 1 ts)
+    step false false h = behind_inner-push front t (bracketed 0 ts)
+bracketed_goes front (suc d) t ts e =
+    behind_inner-push front t (bracketed (cond (is_close t) d (cond (is_open t) (suc (suc d)) (suc d))) ts)
+    ∙ ap (λ n. behind_inner (front ++ t ∷ []) (bracketed n ts)) (depths (is_close t) (is_open t) d (is_open_is_not_close t))
+  where
+    depths : (close opened : Bool) (d : ℕ) → (opened ≡ true → close ≡ false)
+        → cond close d (cond opened (suc (suc d)) (suc d)) ≡ cond opened (suc d + 1) (cond close (suc d - 1) (suc d))
+    depths true true d h = absurd (true_is_not_false (h refl))
+    depths true false d h = omega arith
+    depths false true d h = omega arith
+    depths false false d h = refl
+
+behind_front-push : (front : List Token) (t : Token) (c : Cut) → behind_front front (with_front t c) ≡ behind_front (front ++ t ∷ []) c
+behind_front-push front t c = ap (λ x. record { front = x; behind = c.behind }) (sym (append_assoc front (t ∷ []) c.front))
+
+pub cut_end : (front : List Token) (depth : ℕ) → behind_front front (cut_at_comma depth []) ≡ record { front = front; behind = None }
+unfolding cut_at_comma
+cut_end front depth = rw (append-nil front) refl
+
+pub cut_comma : (front : List Token) (depth : ℕ) (t : Token) (ts : List Token) → depth ≡ 0 → is_comma t ≡ true
+    → behind_front front (cut_at_comma depth (t ∷ ts)) ≡ record { front = front; behind = Some ts }
+unfolding cut_at_comma
+cut_comma front depth t ts e c = rw (e, c, append-nil front) refl
+
+pub cut_goes : (front : List Token) (depth : ℕ) (t : Token) (ts : List Token) → ((depth == 0) && is_comma t) ≡ false
+    → behind_front front (cut_at_comma depth (t ∷ ts)) ≡ behind_front (front ++ t ∷ []) (cut_at_comma (deeper depth t) ts)
+unfolding cut_at_comma deeper
+cut_goes front depth t ts e = step (is_comma t) (depth == 0) (deeper depth t) e
+  where
+    step : (comma none : Bool) (n : ℕ) → (none && comma) ≡ false
+        → behind_front front (cond (comma && none) (record { front = []; behind = Some ts }) (with_front t (cut_at_comma n ts)))
+        ≡ behind_front (front ++ t ∷ []) (cut_at_comma n ts)
+    step true true n h = absurd cc
+    step true false n h = behind_front-push front t (cut_at_comma n ts)
+    step false none n h = behind_front-push front t (cut_at_comma n ts)
+
+and_left : (a b : Bool) → (a && b) ≡ true → a ≡ true
+and_left true b e = refl
+and_left false b e = absurd cc
+
+and_right : (a b : Bool) → (a && b) ≡ true → b ≡ true
+and_right true b e = e
+and_right false b e = absurd cc
+
+is_zero : (n : ℕ) → (n == 0) ≡ true → n ≡ 0
+is_zero n e = grind (arith, nat_tests)
+
+-- the same, as the code goes on
+pub bracketed_closes : (inner ahead rest : List Token) (depth : ℕ) (t : Token) (all : Option Bracketed) → behind_inner inner (bracketed depth ahead) ≡ all
+    → ahead ≡ t ∷ rest → ((depth == 0) && is_close t) ≡ true → all ≡ Some (record { inner = inner; closing = t; behind = rest })
+bracketed_closes inner ahead rest depth t all h w e =
+    sym (subst (λ x. behind_inner inner (bracketed depth x) ≡ all) w h)
+    ∙ bracketed_close inner depth t rest (is_zero depth (and_left (depth == 0) (is_close t) e)) (and_right (depth == 0) (is_close t) e)
+
+pub bracketed_more : (inner inner' ahead rest : List Token) (depth depth' : ℕ) (t : Token) (all : Option Bracketed)
+    → behind_inner inner (bracketed depth ahead) ≡ all → ahead ≡ t ∷ rest → ((depth == 0) && is_close t) ≡ false → depth' ≡ deeper depth t
+    → inner' ≡ inner ++ t ∷ [] → behind_inner inner' (bracketed depth' rest) ≡ all
+bracketed_more inner inner' ahead rest depth depth' t all h w e d i =
+    subst (λ x. behind_inner x (bracketed depth' rest) ≡ all) (sym i) (subst (λ x. behind_inner (inner ++ t ∷ []) (bracketed x rest) ≡ all) (sym d)
+    (sym (bracketed_goes inner depth t rest e) ∙ subst (λ x. behind_inner inner (bracketed depth x) ≡ all) w h))
+
+pub bracketed_open : (inner ahead : List Token) (depth : ℕ) (all : Option Bracketed) → behind_inner inner (bracketed depth ahead) ≡ all → ahead ≡ [] → all ≡ None
+bracketed_open inner ahead depth all h w = sym (subst (λ x. behind_inner inner (bracketed depth x) ≡ all) w h) ∙ bracketed_end inner depth
+
+pub cut_parts : (front ahead rest : List Token) (depth : ℕ) (t : Token) (all : Cut) → behind_front front (cut_at_comma depth ahead) ≡ all
+    → ahead ≡ t ∷ rest → ((depth == 0) && is_comma t) ≡ true → all ≡ record { front = front; behind = Some rest }
+cut_parts front ahead rest depth t all h w e =
+    sym (subst (λ x. behind_front front (cut_at_comma depth x) ≡ all) w h)
+    ∙ cut_comma front depth t rest (is_zero depth (and_left (depth == 0) (is_comma t) e)) (and_right (depth == 0) (is_comma t) e)
+
+pub cut_more : (front front' ahead rest : List Token) (depth depth' : ℕ) (t : Token) (all : Cut)
+    → behind_front front (cut_at_comma depth ahead) ≡ all → ahead ≡ t ∷ rest → ((depth == 0) && is_comma t) ≡ false → depth' ≡ deeper depth t
+    → front' ≡ front ++ t ∷ [] → behind_front front' (cut_at_comma depth' rest) ≡ all
+cut_more front front' ahead rest depth depth' t all h w e d i =
+    subst (λ x. behind_front x (cut_at_comma depth' rest) ≡ all) (sym i) (subst (λ x. behind_front (front ++ t ∷ []) (cut_at_comma x rest) ≡ all) (sym d)
+    (sym (cut_goes front depth t rest e) ∙ subst (λ x. behind_front front (cut_at_comma depth x) ≡ all) w h))
+
+pub cut_none : (front ahead : List Token) (depth : ℕ) (all : Cut) → behind_front front (cut_at_comma depth ahead) ≡ all → ahead ≡ []
+    → all ≡ record { front = front; behind = None }
+cut_none front ahead depth all h w = sym (subst (λ x. behind_front front (cut_at_comma depth x) ≡ all) w h) ∙ cut_end front depth
+
+behind_arguments-push : (front : List (List Token)) (argument : List Token) (n : Option Named)
+    → behind_arguments front (with_argument argument n) ≡ behind_arguments (front ++ argument ∷ []) n
+behind_arguments-push front argument None = refl
+behind_arguments-push front argument (Some n) =
+    ap (λ x. Some (record { arguments = x; behind = n.behind })) (sym (append_assoc front (argument ∷ []) n.arguments))
+
+named_suc : (n : ℕ) (ts : List Token) → named_arguments (suc n) (Some ts) ≡ with_argument (cut_at_comma 0 ts).front (named_arguments n (cut_at_comma 0 ts).behind)
+unfolding named_arguments
+named_suc n ts = refl
+
+pub named_more : (arguments arguments' : List (List Token)) (left left' : ℕ) (text rest : Option (List Token)) (ts argument : List Token) (all : Option Named)
+    → behind_arguments arguments (named_arguments left text) ≡ all → left ≡ suc left' → text ≡ Some ts
+    → cut_at_comma 0 ts ≡ record { front = argument; behind = rest } → arguments' ≡ arguments ++ argument ∷ []
+    → behind_arguments arguments' (named_arguments left' rest) ≡ all
+named_more arguments arguments' left left' text rest ts argument all h l t c a =
+    subst (λ x. behind_arguments x (named_arguments left' rest) ≡ all) (sym a)
+    (subst (λ x. behind_arguments (arguments ++ x.front ∷ []) (named_arguments left' x.behind) ≡ all) c
+    (sym (behind_arguments-push arguments (cut_at_comma 0 ts).front (named_arguments left' (cut_at_comma 0 ts).behind))
+    ∙ (ap (behind_arguments arguments) (sym (named_suc left' ts))
+    ∙ subst (λ x. behind_arguments arguments (named_arguments (suc left') x) ≡ all) t (subst (λ x. behind_arguments arguments (named_arguments x text) ≡ all) l h))))
+
+pub named_few : (arguments : List (List Token)) (left left' : ℕ) (text : Option (List Token)) (all : Option Named)
+    → behind_arguments arguments (named_arguments left text) ≡ all → left ≡ suc left' → text ≡ None → all ≡ None
+unfolding named_arguments
+named_few arguments left left' text all h l t =
+    sym (subst (λ x. behind_arguments arguments (named_arguments (suc left') x) ≡ all) t (subst (λ x. behind_arguments arguments (named_arguments x text) ≡ all) l h))
+
+pub named_done : (arguments : List (List Token)) (left : ℕ) (text : Option (List Token)) (all : Option Named)
+    → behind_arguments arguments (named_arguments left text) ≡ all → left ≡ 0 → all ≡ Some (record { arguments = arguments; behind = text })
+unfolding named_arguments
+named_done arguments left text all h l =
+    sym (subst (λ x. behind_arguments arguments (named_arguments x text) ≡ all) l h)
+    ∙ ap (λ x. Some (record { arguments = x; behind = text })) (append-nil arguments)
+
+-- the lengths of brackets and arguments
+HasLength : ℕ → Option Bracketed → Type 0
+HasLength n None = Unit {0}
+HasLength n (Some b) = n ≡ length b.inner + 1 + length b.behind
+
+inner_length : (n : ℕ) (t : Token) (r : Option Bracketed) → HasLength n r → HasLength (suc n) (with_inner t r)
+unfolding HasLength
+inner_length n t None h = tt
+inner_length n t (Some b) h = omega arith
+
+first_length : (closes : Bool) (t : Token) (ts : List Token) (r : Option Bracketed) → HasLength (length ts) r
+    → HasLength (suc (length ts)) (cond closes (Some (record { inner = []; closing = t; behind = ts })) (with_inner t r))
+unfolding HasLength
+first_length true t ts r h = omega arith
+first_length false t ts r h = inner_length (length ts) t r h
+
+has_length : (depth : ℕ) (ts : List Token) → HasLength (length ts) (bracketed depth ts)
+unfolding HasLength bracketed
+has_length depth [] = tt
+has_length zero (t ∷ ts) = first_length (is_close t) t ts (bracketed (cond (is_open t) 1 0) ts) (has_length (cond (is_open t) 1 0) ts)
+has_length (suc d) (t ∷ ts) =
+    inner_length (length ts) t (bracketed (cond (is_close t) d (cond (is_open t) (suc (suc d)) (suc d))) ts)
+    (has_length (cond (is_close t) d (cond (is_open t) (suc (suc d)) (suc d))) ts)
+
+pub bracketed_length : (depth : ℕ) (ts : List Token) (b : Bracketed) → bracketed depth ts ≡ Some b → length ts ≡ length b.inner + 1 + length b.behind
+unfolding HasLength
+bracketed_length depth ts b e = subst (HasLength (length ts)) e (has_length depth ts)
+
+-- twice the room that a text takes
+text_room : Option (List Token) → ℕ
+text_room None = 0
+text_room (Some ts) = 2 * length ts + 2
+
+CutFits : ℕ → Cut → Type 0
+CutFits n cut = 2 * length cut.front + text_room cut.behind ≤ n
+
+cut_first : (parts : Bool) (t : Token) (ts : List Token) (cut : Cut) → CutFits (2 * length ts) cut
+    → CutFits (2 * suc (length ts)) (cond parts (record { front = []; behind = Some ts }) (with_front t cut))
+unfolding CutFits text_room
+cut_first true t ts cut h = omega arith
+cut_first false t ts cut h = omega arith
+
+cut_room : (depth : ℕ) (ts : List Token) → CutFits (2 * length ts) (cut_at_comma depth ts)
+unfolding CutFits cut_at_comma text_room
+cut_room depth [] = omega arith
+cut_room depth (t ∷ ts) =
+    cut_first (is_comma t && (depth == 0)) t ts (cut_at_comma (cond (is_open t) (depth + 1) (cond (is_close t) (depth - 1) depth)) ts)
+    (cut_room (cond (is_open t) (depth + 1) (cond (is_close t) (depth - 1) depth)) ts)
+
+FitsIn : ℕ → Option Named → Type 0
+FitsIn n None = Unit {0}
+FitsIn n (Some named) = weights named.arguments + text_room named.behind ≤ n
+
+argument_fits : (m n : ℕ) (argument : List Token) (r : Option Named) → FitsIn m r → 2 * length argument + 1 + m ≤ n → FitsIn n (with_argument argument r)
+unfolding FitsIn
+argument_fits m n argument None h le = tt
+argument_fits m n argument (Some named) h le = omega arith
+
+named_fits : (n : ℕ) (text : Option (List Token)) → FitsIn (text_room text) (named_arguments n text)
+unfolding CutFits FitsIn text_room named_arguments
+named_fits zero text = omega arith
+named_fits (suc n) None = tt
+named_fits (suc n) (Some ts) =
+    argument_fits (text_room (cut_at_comma 0 ts).behind) (2 * length ts + 2) (cut_at_comma 0 ts).front (named_arguments n (cut_at_comma 0 ts).behind)
+    (named_fits n (cut_at_comma 0 ts).behind) (let h = cut_room 0 ts in omega (arith, h))
+
+weights-append : (a b : List (List Token)) → weights (a ++ b) ≡ weights a + weights b
+weights-append [] b = omega arith
+weights-append (x ∷ xs) b = let h = weights-append xs b in omega (arith, h)
+
+last_fits : (behind : Option (List Token)) → 2 * length (tokens_or_none behind) ≤ text_room behind
+unfolding text_room
+last_fits None = omega arith
+last_fits (Some ts) = omega arith
+
+variable_fits : (n : ℕ) (variadic : Bool) (found : Option Named) (raw : List (List Token)) → FitsIn n found → with_variable variadic found ≡ Some raw → weights raw ≤ n + 1
+unfolding FitsIn text_room
+variable_fits n variadic None raw h e = absurd cc
+variable_fits n true (Some named) raw h e =
+    let same : raw ≡ named.arguments ++ tokens_or_none named.behind ∷ [] = cc in
+    let sums = ap weights same ∙ weights-append named.arguments (tokens_or_none named.behind ∷ []) in
+    let last = last_fits named.behind in
+    omega (arith, sums, last)
+variable_fits n false (Some named) raw h e = without named.behind e (omega arith)
+  where
+    without : (behind : Option (List Token)) → with_variable false (Some (record { arguments = named.arguments; behind = behind })) ≡ Some raw
+        → weights named.arguments ≤ n → weights raw ≤ n + 1
+    without None f le = let same : weights raw ≡ weights named.arguments = cc in omega (arith, same)
+    without (Some ts) f le = absurd cc
+
+pub arguments_weight : (n : ℕ) (variadic : Bool) (inner : List Token) (raw : List (List Token)) → arguments_of n variadic inner ≡ Some raw
+    → weights raw ≤ 2 * length inner + 3
+unfolding arguments_of text_room
+arguments_weight n variadic inner raw e =
+    let h = variable_fits (text_room (text_between n inner)) variadic (named_arguments n (text_between n inner)) raw (named_fits n (text_between n inner)) e in
+    let k = between n inner in
+    omega (arith, h, k)
+  where
+    between : (n : ℕ) (inner : List Token) → text_room (text_between n inner) ≤ 2 * length inner + 2
+    between zero [] = omega arith
+    between zero (t ∷ ts) = omega arith
+    between (suc n) inner = omega arith

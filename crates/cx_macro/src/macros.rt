@@ -1,0 +1,186 @@
+//! Macros and their names (C11 6.10.3).
+ghost use Rattle.std.specs.Prelude.{◌≡◌, ◌≢◌, ◌+◌, ◌≤◌, IfErr, IfOk, OnOk, OnErr, bytes_eq, length, not, option_map};
+ghost use Rattle.cx_tokens.specs.Nodes.{tokens};
+ghost use Rattle.cx_macro.specs.Answers.{Answers};
+ghost use Rattle.cx_macro.specs.Expansion.{ExpandsList, Outcome, expanded, refused};
+ghost use Rattle.cx_macro.specs.Macros.{IsDefinition, Table, defined, macro_of, no_macros, undefined};
+ghost use Rattle.cx_macro.specs.Made.{definition_by};
+ghost use Rattle.cx_macro.specs.Stored.{definition_of};
+
+use crate::fault::MacroFault;
+use crate::lists::{list_of, tokens_of};
+use crate::parts::copies;
+use crate::spelling::first;
+use crate::steps::run;
+use crate::stored::Stored;
+use cx_base::{List, NoMemory, Text};
+use cx_tokens::{Token, TokenList};
+use indexmap::IndexMap;
+use std::alloc::Global;
+use std::marker::Model;
+
+/// A macro.
+#[derive(Debug, Drop)]
+pub struct Macro {
+    /// The names of its parameters, where it is function-like.
+    pub parameters: Option<List<Text>>,
+    /// Whether a variable argument stands behind these (C11 6.10.3, paragraph 12).
+    pub variadic: bool,
+    /// What replaces it.
+    pub body: TokenList,
+}
+
+impl Macro {
+    /// An equal macro.
+    pub fn copy(&self) -> Result<Macro, NoMemory>
+        ensures { IfOk result (λ m. m ≡ self.now) }
+    {
+        let body = self.body.copy()?;
+        let parameters = copy_of(&self.parameters)?;
+        Ok(Macro {
+            parameters,
+            variadic: self.variadic,
+            body,
+        })
+    }
+}
+
+/// A copy of parameters.
+fn copy_of(parameters: &Option<List<Text>>) -> Result<Option<List<Text>>, NoMemory>
+    ensures { IfOk result (λ p. p ≡ parameters.now) }
+{
+    match parameters {
+        None => Ok(None),
+        Some(parameters) => Ok(Some(parameters.copy()?)),
+    }
+}
+
+/// A list whose macros are replaced.
+#[derive(Debug, Drop)]
+pub struct Expanded {
+    pub list: TokenList,
+    /// How many tokens have been laid.
+    pub laid: u32,
+}
+
+/// How many tokens may be laid, at most.
+const GREATEST: u32 = 262_144;
+
+/// Macros by their names, in the order in which they were first seen. Contracts see the table of
+/// them.
+#[derive(Drop)]
+pub struct Macros {
+    macros: IndexMap<Vec<u8>, Stored>,
+    alloc: Global,
+}
+
+impl Model for Macros {
+    ghost use Rattle.std.specs.Prelude.{map};
+    ghost use Rattle.cx_macro.specs.Macros.{Table};
+
+    ghost Value = { Table };
+
+    ghost use Rattle.cx_macro.specs.Stored.{definition_of};
+
+    ghost view = { λ m. map (λ e. (e.0.items, definition_of e.1)) m.macros.entries };
+}
+
+impl Macros {
+    /// No macros.
+    pub fn new(alloc: Global) -> Macros
+        ensures { result ≡ no_macros }
+    {
+        Macros {
+            macros: IndexMap::new(alloc),
+            alloc,
+        }
+    }
+
+    /// Defines a name, also one that is defined. A refused call changes nothing.
+    pub fn define(&mut self, name: Text, made: Macro) -> Result<(), NoMemory>
+        requires { IsDefinition (definition_by made) }
+        ensures ok { OnOk result (self.new ≡ defined name (definition_by made) self.old) }
+        ensures err { OnErr result (self.new ≡ self.old) }
+    {
+        let key = Vec::from_slice(self.alloc, name.as_slice())?;
+        let body = tokens_of(self.alloc, &made.body)?;
+        let stored = Stored {
+            parameters: made.parameters,
+            variadic: made.variadic,
+            body,
+        };
+        self.macros.insert(key, stored)?;
+        Ok(())
+    }
+
+    /// Takes the definition of a name away, where it has one.
+    pub fn undef(&mut self, name: &[u8])
+        ensures { self.new ≡ undefined name.now self.old }
+    {
+        self.macros.retain(
+            |key: &Vec<u8>, stored: &mut Stored| -> bool
+                ensures { (result ≡ not (bytes_eq key.now.items name.entry.now)) × (stored.new ≡ stored.old) }
+            { key.as_slice() != name },
+        );
+    }
+
+    /// The macro of a name.
+    pub(crate) fn find(&self, name: &[u8]) -> Option<&Stored>
+        ensures { option_map (λ s. definition_of s.now) result ≡ macro_of self.now name.now }
+    {
+        self.macros.get(name)
+    }
+
+    /// Replaces the macros of a list (C11 6.10.3), of which each token counts as laid, and for each
+    /// replacement one more than its tokens. So many have been laid before.
+    pub fn expand(&self, alloc: Global, list: TokenList, laid: u32) -> Result<Expanded, MacroFault>
+        requires { laid ≤ 262144 }
+        ensures ok { IfOk result (λ x. ExpandsList self.now 262144 laid (tokens list) (expanded (tokens x.list) x.laid)) }
+        ensures fault { IfErr result (λ fault. fault ≢ MacroFault.NoMemory → ExpandsList self.now 262144 laid (tokens list) (refused fault)) }
+        ensures only { (outcome : Outcome) → ExpandsList self.now 262144 laid (tokens list) outcome → Answers outcome result }
+    {
+        self.expand_within(alloc, list, laid, GREATEST)
+    }
+
+    /// The same with another bound.
+    pub fn expand_within(
+        &self,
+        alloc: Global,
+        list: TokenList,
+        laid: u32,
+        bound: u32,
+    ) -> Result<Expanded, MacroFault>
+        requires { laid ≤ bound }
+        ensures ok { IfOk result (λ x. ExpandsList self.now bound laid (tokens list) (expanded (tokens x.list) x.laid)) }
+        ensures fault { IfErr result (λ fault. fault ≢ MacroFault.NoMemory → ExpandsList self.now bound laid (tokens list) (refused fault)) }
+        ensures only { (outcome : Outcome) → ExpandsList self.now bound laid (tokens list) outcome → Answers outcome result }
+    {
+        let ahead = tokens_of(alloc, &list)?;
+        let first = first_laid(bound, laid, ahead.as_slice())?;
+        let (done, laid) = run(self, alloc, bound, first, copies(alloc, ahead.as_slice())?)?;
+        let list = list_of(alloc, done.as_slice())?;
+        Ok(Expanded { list, laid })
+    }
+}
+
+/// How many tokens are laid with those of a list.
+fn first_laid(bound: u32, laid: u32, ahead: &[Token]) -> Result<u32, MacroFault>
+    requires { laid ≤ bound }
+    ensures within { IfOk result (λ n. (n ≡ laid + length ahead.now) × (n ≤ bound)) }
+    ensures fault { IfErr result (λ fault. (table : Table) → fault ≢ MacroFault.NoMemory → ExpandsList table bound laid ahead.now (refused fault)) }
+{
+    let Some((token, _)) = first(ahead) else {
+        return Ok(laid);
+    };
+    let total = (ahead.len() as u64)
+        .checked_add(u64::from(laid))
+        .ok_or(MacroFault::NoMemory)?;
+    if total <= u64::from(bound) {
+        Ok(total as u32)
+    } else {
+        Err(MacroFault::TooManyTokens {
+            at: token.place,
+            laid: total,
+        })
+    }
+}

@@ -1,0 +1,95 @@
+//! Stacks.
+ghost use Rattle.std.specs.Prelude.{◌≡◌, List as list, [], ◌∷◌, ◌++◌, length, OnOk, OnErr, MatchOption};
+
+use cx_base::NoMemory;
+use std::alloc::Global;
+use std::marker::Model;
+
+/// A stack, which contracts see as the list of its members from the top.
+#[derive(Drop)]
+pub(crate) struct Stack<T> {
+    items: Vec<T>,
+}
+
+impl<T> Model for Stack<T> {
+    ghost use Rattle.std.specs.Prelude.{List, reverse};
+    ghost use Rattle.std.specs.Coded.{coded_list};
+
+    ghost Value = { List T };
+
+    ghost coded = { coded_list T.code };
+
+    ghost view = { λ s. reverse s.items.items };
+}
+
+impl<T> Stack<T> {
+    /// The empty stack.
+    pub(crate) fn new(alloc: Global) -> Stack<T>
+        ensures { result ≡ [] }
+    {
+        Stack {
+            items: Vec::new(alloc),
+        }
+    }
+
+    /// A stack with the first of these on top.
+    pub(crate) fn from_vec(items: Vec<T>) -> Stack<T>
+        ensures { result ≡ items.items }
+    {
+        let mut items = items;
+        items.as_mut_slice().reverse();
+        Stack { items }
+    }
+
+    /// The members, the one on top first.
+    pub(crate) fn into_vec(self) -> Vec<T>
+        ensures { result.items ≡ self }
+    {
+        let mut items = self.items;
+        items.as_mut_slice().reverse();
+        items
+    }
+
+    pub(crate) fn len(&self) -> usize
+        ensures { result ≡ length self.now }
+    {
+        self.items.len()
+    }
+
+    /// The member on top.
+    pub(crate) fn top(&self) -> Option<&T>
+        ensures { MatchOption result (self.now ≡ []) (λ x. (rest : list T) × (self.now ≡ x.now ∷ rest)) }
+    {
+        self.items.last()
+    }
+
+    /// Takes the member on top.
+    pub(crate) fn pop(&mut self) -> Option<T>
+        ensures { MatchOption result ((self.old ≡ []) × (self.new ≡ [])) (λ x. self.old ≡ x ∷ self.new) }
+    {
+        self.items.pop()
+    }
+}
+
+impl<T: Drop> Stack<T> {
+    /// Puts a member on top; a refused call changes nothing and gives the member up.
+    pub(crate) fn push(&mut self, item: T) -> Result<(), NoMemory>
+        ensures ok { OnOk result (self.new ≡ item ∷ self.old) }
+        ensures err { OnErr result (self.new ≡ self.old) }
+    {
+        self.items.push(item)?;
+        Ok(())
+    }
+
+    /// Puts members on top, the first of them topmost; a refused call changes nothing and gives the
+    /// members up.
+    pub(crate) fn push_all(&mut self, more: Vec<T>) -> Result<(), NoMemory>
+        ensures ok { OnOk result (self.new ≡ more.items ++ self.old) }
+        ensures err { OnErr result (self.new ≡ self.old) }
+    {
+        let mut more = more;
+        more.as_mut_slice().reverse();
+        self.items.append(&mut more)?;
+        Ok(())
+    }
+}

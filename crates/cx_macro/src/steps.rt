@@ -1,0 +1,236 @@
+//! The steps of macro replacement: a token stays, is replaced, or begins a call.
+ghost use Rattle.std.specs.Prelude.{◌≡◌, ◌≢◌, ◌≤◌, ◌∷◌, Some, IfOk, IfErr, IsTrue, ℕ};
+ghost use Rattle.cx_tokens.specs.declared.token.Token.{Token};
+ghost use Rattle.cx_macro.specs.Expansion.{Expands, definition_at, expanded, refused, replaced, stays, use_of};
+ghost use Rattle.cx_macro.specs.Macros.{Table};
+ghost use Rattle.cx_macro.specs.Steps.{FailsAt, FailsOn, MeaningIs, StepIs, Takes};
+ghost use Rattle.cx_macro.specs.Uses.{begins_call, may_go};
+ghost use Rattle.cx_macro.specs.Stored.{definition_of};
+
+use crate::arguments::{arguments_of, bracketed};
+use crate::calls::{count, proceed, resume};
+use crate::expansion::{Call, Level, Meaning, State, Step};
+use crate::fault::MacroFault;
+use crate::hiding::{common, is_among, with_name};
+use crate::macros::Macros;
+use crate::marks::{is_name, is_open};
+use crate::parts::Arguments;
+use crate::replacing::replacement;
+use crate::stack::Stack;
+use crate::stored::{Stored, is_same};
+use cx_base::{List, Text};
+use cx_tokens::Token;
+use std::alloc::Global;
+
+/// The name that stands for the line of its place (C11 6.10.8.1).
+const LINE_NAME: &[u8] = b"__LINE__";
+
+/// Whether a token is a name that its hide set does not hold.
+fn may_go(token: &Token) -> bool
+    ensures { result ≡ may_go token.now }
+{
+    is_name(token.kind) && !is_among(token.hide.as_slice(), token.text.as_slice())
+}
+
+/// What a token may be replaced by.
+#[tactic(auto, unfolding(crate::specs::Expansion::definition_at))]
+fn meaning_of<'a>(macros: &'a Macros, token: &Token) -> Meaning<'a>
+    ensures { MeaningIs macros.now token.now result }
+{
+    if !may_go(token) {
+        return Meaning::Itself;
+    }
+    if is_same(token.text.as_slice(), LINE_NAME) {
+        return Meaning::Line;
+    }
+    match macros.find(token.text.as_slice()) {
+        None => Meaning::Itself,
+        Some(stored) => Meaning::Macro(stored),
+    }
+}
+
+/// Lets a token stay.
+fn stay<'a>(state: State<'a>, token: Token) -> Result<State<'a>, MacroFault>
+    ensures new { IfOk result (λ new. (table : Table) (bound : ℕ) → use_of table token state.entry.level.ahead ≡ stays → state.entry.laid ≤ bound → Takes table bound token state.entry new) }
+    ensures fault { IfErr result (λ fault. fault ≡ MacroFault.NoMemory) }
+{
+    let mut state = state;
+    state.level.done.push(token)?;
+    Ok(state)
+}
+
+/// Replaces the name of an object-like macro.
+fn replace<'a>(
+    alloc: Global,
+    bound: u32,
+    state: State<'a>,
+    stored: &Stored,
+    name: Token,
+) -> Result<State<'a>, MacroFault>
+    ensures new { IfOk result (λ new. (table : Table) → use_of table name state.entry.level.ahead ≡ replaced (definition_of stored.now) → Takes table bound name state.entry new) }
+    ensures fault { IfErr result (λ fault. (table : Table) → use_of table name state.entry.level.ahead ≡ replaced (definition_of stored.now) → FailsAt table bound name state.entry fault) }
+{
+    let none = Arguments {
+        raw: &[],
+        expanded: &[],
+    };
+    let hide = with_name(&name.text, &name.hide)?;
+    let news = replacement(alloc, stored, none, &name, &hide)?;
+    let State { laid, level, calls } = state;
+    let laid = count(laid, bound, &name, news.as_slice())?;
+    let mut level = level;
+    level.ahead.push_all(news)?;
+    Ok(State { laid, level, calls })
+}
+
+/// Whether an opening bracket is ahead.
+fn begins_call(ahead: &Stack<Token>) -> bool
+    ensures { result ≡ begins_call ahead.now }
+{
+    match ahead.top() {
+        None => false,
+        Some(token) => is_open(token),
+    }
+}
+
+/// Takes the opening bracket that is ahead.
+fn pass_bracket(ahead: &mut Stack<Token>)
+    requires { IsTrue (begins_call ahead.old) }
+    ensures { (bracket : Token) × (ahead.old ≡ bracket ∷ ahead.new) }
+{
+    let _open = ahead.pop();
+}
+
+/// Begins the call of a macro whose name was taken and whose opening bracket is ahead.
+fn call<'a>(
+    alloc: Global,
+    bound: u32,
+    state: State<'a>,
+    stored: &'a Stored,
+    parameters: &[Text],
+    name: Token,
+) -> Result<State<'a>, MacroFault>
+    requires within { state.laid ≤ bound }
+    requires parameters { stored.now.parameters ≡ Some parameters.now }
+    requires open { IsTrue (begins_call state.level.ahead) }
+    ensures new { IfOk result (λ new. (table : Table) → definition_at table name ≡ Some (definition_of stored.now) → Takes table bound name state.entry new) }
+    ensures fault { IfErr result (λ fault. (table : Table) → definition_at table name ≡ Some (definition_of stored.now) → FailsAt table bound name state.entry fault) }
+{
+    let State { laid, level, calls } = state;
+    let mut outer = level;
+    pass_bracket(&mut outer.ahead);
+    let Some((inner, closing)) = bracketed(alloc, &mut outer.ahead)? else {
+        return Err(MacroFault::UnclosedCall { at: name.place });
+    };
+    let Some(raw) = arguments_of(alloc, parameters.len(), stored.variadic, inner)? else {
+        return Err(MacroFault::ArgumentCount { at: name.place });
+    };
+    let both = common(alloc, name.hide.as_slice(), closing.hide.as_slice())?;
+    let hide = with_name(&name.text, &both)?;
+    let call = Call {
+        name,
+        stored,
+        hide,
+        raw,
+        expanded: List::new(alloc),
+        outer,
+    };
+    proceed(alloc, bound, laid, call, calls)
+}
+
+/// Takes the name of a macro.
+fn take_name<'a>(
+    alloc: Global,
+    bound: u32,
+    state: State<'a>,
+    stored: &'a Stored,
+    name: Token,
+) -> Result<State<'a>, MacroFault>
+    requires { state.laid ≤ bound }
+    ensures new { IfOk result (λ new. (table : Table) → definition_at table name ≡ Some (definition_of stored.now) → Takes table bound name state.entry new) }
+    ensures fault { IfErr result (λ fault. (table : Table) → definition_at table name ≡ Some (definition_of stored.now) → FailsAt table bound name state.entry fault) }
+{
+    let Some(parameters) = &stored.parameters else {
+        return replace(alloc, bound, state, stored, name);
+    };
+    if begins_call(&state.level.ahead) {
+        call(alloc, bound, state, stored, parameters.as_slice(), name)
+    } else {
+        stay(state, name)
+    }
+}
+
+/// Takes a token.
+fn take<'a>(
+    macros: &'a Macros,
+    alloc: Global,
+    bound: u32,
+    state: State<'a>,
+    token: Token,
+) -> Result<State<'a>, MacroFault>
+    requires { state.laid ≤ bound }
+    ensures new { IfOk result (λ new. Takes macros.now bound token state.entry new) }
+    ensures fault { IfErr result (λ fault. FailsAt macros.now bound token state.entry fault) }
+{
+    match meaning_of(macros, &token) {
+        Meaning::Itself => stay(state, token),
+        Meaning::Line => {
+            let line = Stored::line_of(alloc, &token)?;
+            replace(alloc, bound, state, &line, token)
+        }
+        Meaning::Macro(stored) => take_name(alloc, bound, state, stored, token),
+    }
+}
+
+/// Makes a step.
+pub(crate) fn step<'a>(
+    macros: &'a Macros,
+    alloc: Global,
+    bound: u32,
+    state: State<'a>,
+) -> Result<Step<'a>, MacroFault>
+    requires { state.laid ≤ bound }
+    ensures new { IfOk result (λ step. StepIs macros.now bound state.entry step) }
+    ensures fault { IfErr result (λ fault. FailsOn macros.now bound state.entry fault) }
+{
+    let mut state = state;
+    if let Some(token) = state.level.ahead.pop() {
+        return Ok(Step::Goes(take(macros, alloc, bound, state, token)?));
+    }
+    let State { laid, level, calls } = state;
+    let mut calls = calls;
+    let done = level.done;
+    match calls.pop() {
+        None => Ok(Step::Ends { done, laid }),
+        Some(call) => Ok(Step::Goes(resume(alloc, bound, laid, done, call, calls)?)),
+    }
+}
+
+/// Expands tokens, of which so many have been laid, with those before them.
+pub(crate) fn run(
+    macros: &Macros,
+    alloc: Global,
+    bound: u32,
+    laid: u32,
+    tokens: Vec<Token>,
+) -> Result<(List<Token>, u32), MacroFault>
+    requires { laid ≤ bound }
+    ensures outcome { IfOk result (λ x. Expands macros.now bound laid tokens.items (expanded x.0 x.1)) }
+    ensures within { IfOk result (λ x. x.1 ≤ bound) }
+    ensures fault { IfErr result (λ fault. fault ≢ MacroFault.NoMemory → Expands macros.now bound laid tokens.items (refused fault)) }
+{
+    let mut state = State {
+        laid,
+        level: Level {
+            done: List::new(alloc),
+            ahead: Stack::from_vec(tokens),
+        },
+        calls: Stack::new(alloc),
+    };
+    loop {
+        match step(macros, alloc, bound, state)? {
+            Step::Ends { done, laid } => return Ok((done, laid)),
+            Step::Goes(next) => state = next,
+        }
+    }
+}
