@@ -1,0 +1,5 @@
+pub mod KeptLaws
+pub mod NodeLaws
+pub mod PartLaws
+pub mod PlaceLaws
+pub mod StepLaws

@@ -1,3 +1,4 @@
 pub mod Brackets
+pub mod Edits
 pub mod Nodes
 pub mod Simplified
