@@ -1,5 +1,10 @@
+pub mod BalanceLaws
+pub mod BracketLaws
 pub mod KeptLaws
+pub mod MateLaws
 pub mod NodeLaws
+pub mod OpenLaws
+pub mod PairLaws
 pub mod PartLaws
 pub mod PlaceLaws
 pub mod StepLaws

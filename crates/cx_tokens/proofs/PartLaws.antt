@@ -152,7 +152,7 @@ abbrev AreMates : List TokenNode → List TokenNode → Type 0
 AreMates nodes xs = AllByRecursion (λ x. IsMate nodes x.partner) xs
 
 -- the node that stands behind some
-node_at : (front : List TokenNode) (x : TokenNode) (xs : List TokenNode) → IsNumbered (front ++ x ∷ xs) → node_of x.number (front ++ x ∷ xs) ≡ Some x
+pub node_at : (front : List TokenNode) (x : TokenNode) (xs : List TokenNode) → IsNumbered (front ++ x ∷ xs) → node_of x.number (front ++ x ∷ xs) ≡ Some x
 node_at front x xs d =
     let here : (x.number == x.number) ≡ true = eq-eqb x.number x.number refl in
     let dead : is_live x.number front ≡ false = false_from_ne_true (is_live x.number front)

@@ -1,4 +1,5 @@
 pub mod Brackets
 pub mod Edits
 pub mod Nodes
+pub mod Pairing
 pub mod Simplified

@@ -3,9 +3,12 @@
 
 pub use node::Node;
 pub use token::{Kind, Token};
-pub use token_list::TokenList;
+pub use laws::{nested_are_not_unpaired, one_fault, one_pairing};
+pub use token_list::{TokenList, Unpaired};
 
+mod bracket;
 mod entry;
+mod laws;
 mod node;
 mod token;
 mod token_list;

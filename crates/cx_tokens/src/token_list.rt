@@ -1,13 +1,22 @@
 //! Lists of tokens, with edits.
-ghost use Rattle.std.specs.Prelude.{◌≡◌, ℕ, List as list, [], IfOk, IfSome, IsTrue, OnOk, OnErr, MatchResult};
+ghost use Rattle.std.specs.Prelude.{◌≡◌, ℕ, List as list, [], IfErr, IfOk, IfSome, IsOk, IsTrue, OnOk, OnErr, map};
+ghost use Rattle.cx_tokens.specs.Brackets.{IsNested, IsPaired, IsUnpaired};
 ghost use Rattle.cx_tokens.specs.Nodes.{AreNew, IsTokenList, before, behind, erased, first_of, from_on, inserted, is_live, last_of, new_node, new_nodes, node_of, partner_of, spliced, tokens};
 
+use crate::bracket::{fault, pair};
 use crate::entry::{copy_of, entry_of, node_at, node_before, part, place_behind, place_of, put, renumbered, Entry};
 use crate::node::Node;
 use crate::token::Token;
-use cx_base::{Duplicate, NoMemory};
+use cx_base::{Duplicate, NoMemory, Place};
 use std::alloc::Global;
 use std::marker::Model;
+
+/// A bracket that has none to match it: the first closing one that does not fit, else the last one
+/// left open.
+#[derive(Clone, Copy, Debug, PartialEq, Eq)]
+pub struct Unpaired {
+    pub at: Place,
+}
 
 /// A list of tokens in which a token is named by its node. A node stays that of its token until the
 /// token is taken out, whatever is put in or taken out around it.
@@ -152,6 +161,23 @@ impl TokenList {
         ensures { IsTokenList self.now }
     {
         let _ = &self.entries;
+    }
+
+    /// Makes each bracket and the one that matches it partners. Where the brackets are not nested,
+    /// nothing changes. Takes no memory.
+    pub fn pair_brackets(&mut self) -> Result<(), Unpaired>
+        ensures paired { OnOk result (IsPaired self.new) }
+        ensures numbers { OnOk result (map (λ x. x.number) self.new ≡ map (λ x. x.number) self.old) }
+        ensures tokens { OnOk result (tokens self.new ≡ tokens self.old) }
+        ensures fault { IfErr result (λ e. IsUnpaired (tokens self.old) e.at) }
+        ensures unchanged { OnErr result (self.new ≡ self.old) }
+        ensures nested { IsNested (tokens self.old) → IsOk result }
+    {
+        if let Some(at) = fault(self.entries.as_slice(), &mut self.stack) {
+            return Err(Unpaired { at });
+        }
+        pair(&mut self.entries, &mut self.stack);
+        Ok(())
     }
 
     /// An equal list.

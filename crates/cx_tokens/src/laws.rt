@@ -1,0 +1,21 @@
+//! Laws of token lists.
+ghost use Rattle.std.specs.Prelude.{◌≡◌, List as list, map};
+ghost use Rattle.cx_base.specs.declared.place.Place.{Place as place};
+ghost use Rattle.cx_tokens.specs.declared.token.Token.{Token as token};
+ghost use Rattle.cx_tokens.specs.Brackets.{IsNested, IsPaired, IsUnpaired};
+ghost use Rattle.cx_tokens.specs.Nodes.{TokenNode, tokens};
+
+/// At most one pairing fits a list of numbers and tokens.
+pub fn one_pairing()
+    ensures { (some others : list TokenNode) → IsPaired some → IsPaired others → map (λ x. x.number) some ≡ map (λ x. x.number) others → tokens some ≡ tokens others → some ≡ others }
+{}
+
+/// Tokens whose brackets are nested have no bracket without one that matches it.
+pub fn nested_are_not_unpaired()
+    ensures { (all : list token) (at : place) → IsNested all → ¬ (IsUnpaired all at) }
+{}
+
+/// Brackets are wrong at one place at most.
+pub fn one_fault()
+    ensures { (all : list token) (some other : place) → IsUnpaired all some → IsUnpaired all other → some ≡ other }
+{}
