@@ -7,4 +7,7 @@ pub mod OpenLaws
 pub mod PairLaws
 pub mod PartLaws
 pub mod PlaceLaws
+pub mod SimplifyLaws
 pub mod StepLaws
+pub mod SweepLaws
+pub mod SweptPairs

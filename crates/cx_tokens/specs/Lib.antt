@@ -3,3 +3,4 @@ pub mod Edits
 pub mod Nodes
 pub mod Pairing
 pub mod Simplified
+pub mod Sweeping

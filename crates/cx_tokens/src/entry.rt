@@ -1,11 +1,12 @@
 //! Entries of token lists, and where they stand.
 ghost use Rattle.std.specs.Prelude.{◌≡◌, ◌+◌, ◌<◌, ◌≤◌, ◌++◌, IfOk, IfSome, IsTrue, OnOk, OnErr, length, map, take, drop, vec_capacity, vec_len};
 ghost use Rattle.cx_tokens.specs.Edits.{numbered, parted, parted_one, place_behind, put};
+ghost use Rattle.cx_tokens.specs.Sweeping.{with_text};
 ghost use Rattle.cx_tokens.specs.Nodes.{before, first_of, is_live, last_of, node_of, tokens};
 
 use crate::node::Node;
 use crate::token::Token;
-use cx_base::NoMemory;
+use cx_base::{List, NoMemory, Text};
 use std::alloc::Global;
 use std::marker::Model;
 
@@ -60,10 +61,13 @@ impl Entry {
         self.partner
     }
 
-    pub fn set_token(&mut self, token: Token)
-        ensures { self.new ≡ record { number = self.old.number; token = token; partner = self.old.partner } }
+    // Gives the token another text, and the parts of it.
+    #[tactic(auto, unfolding(crate::specs::Sweeping::with_text))]
+    pub fn set_text(&mut self, text: Text, parts: List<usize>)
+        ensures { self.new ≡ with_text self.old text parts }
     {
-        self.token = token;
+        self.token.text = text;
+        self.token.parts = parts;
     }
 
     pub fn set_partner(&mut self, partner: Option<u32>)

@@ -3,6 +3,7 @@ ghost use Rattle.std.specs.Prelude.{◌≡◌, List as list, map};
 ghost use Rattle.cx_base.specs.declared.place.Place.{Place as place};
 ghost use Rattle.cx_tokens.specs.declared.token.Token.{Token as token};
 ghost use Rattle.cx_tokens.specs.Brackets.{IsNested, IsPaired, IsUnpaired};
+ghost use Rattle.cx_tokens.specs.Simplified.{simplified};
 ghost use Rattle.cx_tokens.specs.Nodes.{TokenNode, tokens};
 
 /// At most one pairing fits a list of numbers and tokens.
@@ -18,4 +19,9 @@ pub fn nested_are_not_unpaired()
 /// Brackets are wrong at one place at most.
 pub fn one_fault()
     ensures { (all : list token) (some other : place) → IsUnpaired all some → IsUnpaired all other → some ≡ other }
+{}
+
+/// What is simplified stays as it is.
+pub fn simplified_once()
+    ensures { (nodes : list TokenNode) → simplified (simplified nodes) ≡ simplified nodes }
 {}

@@ -1,11 +1,13 @@
 //! Lists of tokens, with edits.
 ghost use Rattle.std.specs.Prelude.{◌≡◌, ℕ, List as list, [], IfErr, IfOk, IfSome, IsOk, IsTrue, OnOk, OnErr, map};
 ghost use Rattle.cx_tokens.specs.Brackets.{IsNested, IsPaired, IsUnpaired};
+ghost use Rattle.cx_tokens.specs.Simplified.{IsPartlySimplified, simplified};
 ghost use Rattle.cx_tokens.specs.Nodes.{AreNew, IsTokenList, before, behind, erased, first_of, from_on, inserted, is_live, last_of, new_node, new_nodes, node_of, partner_of, spliced, tokens};
 
 use crate::bracket::{fault, pair};
 use crate::entry::{copy_of, entry_of, node_at, node_before, part, place_behind, place_of, put, renumbered, Entry};
 use crate::node::Node;
+use crate::simplify::sweep;
 use crate::token::Token;
 use cx_base::{Duplicate, NoMemory, Place};
 use std::alloc::Global;
@@ -178,6 +180,18 @@ impl TokenList {
         }
         pair(&mut self.entries, &mut self.stack);
         Ok(())
+    }
+
+    /// Takes out the words that say nothing of the values of a program, such as `inline`, and joins
+    /// adjacent strings. Where memory runs out, only some of it is done, and what is left to do leads
+    /// to the same list.
+    pub fn simplify(&mut self) -> Result<(), NoMemory>
+        requires paired { IsPaired self.old }
+        ensures paired { IsPaired self.new }
+        ensures ok { OnOk result (self.new ≡ simplified self.old) }
+        ensures err { OnErr result (IsPartlySimplified self.old self.new) }
+    {
+        sweep(&mut self.entries)
     }
 
     /// An equal list.
