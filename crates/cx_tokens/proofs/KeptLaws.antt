@@ -1,15 +1,15 @@
 -- What each token list keeps, over its edits.
-use Rattle.std.proofs.Common.{◌≡◌, ℕ, ◌+◌, ◌-◌, ◌<◌, ◌≤◌, arith, List, [], ◌∷◌, ◌++◌, Option, Some, None, Bool, true, false, refl, sym, ap, ap₂, ◌∙◌, subst, cond, map, length, length-append, ◌==◌, take, drop, IfSome, IsTrue, append_assoc, append-nil, suc, take-append-drop, ◌⊎◌, ⊎_elim, slice_range}
-use Rattle.std.specs.List.{AllByRecursion, IsDistinct, list_any, remove, between}
-use Rattle.std.proofs.lemmas.Bool.{both_ways, cases_Bool, eqb-true, false_from_ne_true, or_cases, or_from, or_left, ne_eqb}
+use Rattle.std.proofs.Common.{◌≡◌, ℕ, ◌+◌, ◌<◌, ◌≤◌, arith, List, [], ◌∷◌, ◌++◌, Option, Some, None, true, false, refl, sym, ap, ap₂, ◌∙◌, subst, map, length, length-append, ◌==◌, take, drop, suc, take-append-drop, ⊎_elim, slice_range}
+use Rattle.std.specs.List.{AllByRecursion, IsDistinct, list_any, remove}
+use Rattle.std.proofs.lemmas.Bool.{eqb-true, false_from_ne_true, or_cases}
 use Rattle.std.proofs.lemmas.List.{length-map}
 use Rattle.std.proofs.lemmas.List.Edits.{split_between}
 use Rattle.cx_tokens.specs.declared.token.Token.{Token}
-use Rattle.cx_tokens.specs.Nodes.{AreNew, IsTokenList, TokenNode, before, behind, erased, from_on, inserted, is_live, new_node, new_nodes, partner_of, settled, spliced, tokens}
+use Rattle.cx_tokens.specs.Nodes.{AreNew, IsTokenList, TokenNode, before, behind, erased, from_on, is_live, new_node, new_nodes, settled, spliced}
 use Rattle.cx_tokens.specs.Edits.{IsKept, numbered, numbers_from, parted, place_behind, put}
-use Rattle.cx_tokens.proofs.NodeLaws.{IsNumbered, found, live_cases, live_left, live_right, numbered_cons, numbered_none, own_number}
+use Rattle.cx_tokens.proofs.NodeLaws.{IsNumbered, found, live_cases, live_left, live_right, numbered_cons, numbered_none}
 use Rattle.cx_tokens.proofs.PartLaws.{IsFresh, gone_live, keeps, live_settled, none_parted, settled_list, settled_parted}
-use Rattle.cx_tokens.proofs.PlaceLaws.{drop_behind, in_order, inserted_is, take_before}
+use Rattle.cx_tokens.proofs.PlaceLaws.{drop_behind, in_order, take_before}
 
 pub kept_empty : (nodes : List TokenNode) (room : ℕ) (opened : List ℕ) → nodes ≡ [] → opened ≡ [] → IsKept nodes 0 room opened
 kept_empty nodes room opened e none = subst (λ t. IsKept t 0 room opened) (sym e) (record {
@@ -31,12 +31,12 @@ pub kept_settled : (front run back news : List TokenNode) (next later room more 
 kept_settled front run back news next later room more opened left k f b o e none = record {
   is_list = settled_list (front ++ (run ++ back)) (front ++ (news ++ back)) k.is_list (keeps front run back news k.is_list.distinct f);
   below = λ n l. ⊎_elim
-  (λ (g : is_live n front ≡ true). let h = k.below n (live_left n front (run ++ back) g) in omega arith)
-  (λ (g : is_live n (news ++ back) ≡ true). ⊎_elim
-  (λ (i : is_live n news ≡ true). b n i)
-  (λ (i : is_live n back ≡ true). let h = k.below n (live_right n front (run ++ back) (live_right n run back i)) in omega arith)
-  (live_cases n news back g))
-  (live_cases n front (news ++ back) (sym (live_settled (front ++ (news ++ back)) n) ∙ l));
+      (λ (g : is_live n front ≡ true). let h = k.below n (live_left n front (run ++ back) g) in omega arith)
+      (λ (g : is_live n (news ++ back) ≡ true). ⊎_elim
+      (λ (i : is_live n news ≡ true). b n i)
+      (λ (i : is_live n back ≡ true). let h = k.below n (live_right n front (run ++ back) (live_right n run back i)) in omega arith)
+      (live_cases n news back g))
+      (live_cases n front (news ++ back) (sym (live_settled (front ++ (news ++ back)) n) ∙ l));
   enough = let a = length_settled (front ++ (news ++ back)) in omega (arith, a);
   none_open = none;
 }
@@ -53,8 +53,8 @@ fresh_one nodes next room opened token k = record {
   fresh = λ n l. false_from_ne_true (is_live n nodes) (λ h. next_new nodes next room opened k (subst (λ m. is_live m nodes ≡ true) (sym (one_live n next token l)) h));
 }
   where
-  one_live : (n next : ℕ) (token : Token) → is_live n (new_node next token ∷ []) ≡ true → next ≡ n
-  one_live n next token l = ⊎_elim (λ (e : (next == n) ≡ true). eqb-true next n e) (λ (e : false ≡ true). absurd cc) (or_cases (next == n) false l)
+    one_live : (n next : ℕ) (token : Token) → is_live n (new_node next token ∷ []) ≡ true → next ≡ n
+    one_live n next token l = ⊎_elim (λ (e : (next == n) ≡ true). eqb-true next n e) (λ (e : false ≡ true). absurd cc) (or_cases (next == n) false l)
 
 same_settled : (front back news : List TokenNode) → IsTokenList (front ++ back) → IsFresh news (front ++ back) → settled (front ++ (news ++ back)) ≡ front ++ (news ++ back)
 same_settled front back news l f = settled_parted front [] back news l f ∙ none_parted (front ++ (news ++ back))
@@ -158,7 +158,7 @@ numbers_new nodes next room opened ts k = record {
   one_each = length_numbers next ts;
   distinct = subst (λ t. IsDistinct (λ a b. a == b) t) (numbers_numbered next ts) (numbered_numbered next ts);
   fresh = λ n l h. let a : is_live n (numbered next ts) ≡ true = sym (gone_live (numbered next ts) n) ∙ ap (list_any (λ m. m == n)) (numbers_numbered next ts) ∙ l in
-  let p = (numbered_live n next ts a).0 in let q = k.below n h in omega arith;
+      let p = (numbered_live n next ts a).0 in let q = k.below n h in omega arith;
 }
 
 split_run : (start end : ℕ) (nodes : List TokenNode) → is_live start nodes ≡ true → is_live end nodes ≡ true → length (before start nodes) ≤ place_behind (Some end) nodes

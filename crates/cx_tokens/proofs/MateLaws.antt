@@ -1,8 +1,8 @@
 -- Paired brackets are partners of each other.
-use Rattle.std.proofs.Common.{◌≡◌, ℕ, ◌<◌, ◌≤◌, arith, List, [], ◌∷◌, ◌++◌, Option, Some, None, Bool, true, false, refl, sym, ap, ◌∙◌, subst, append_assoc, append-nil, map, length, ◌==◌}
+use Rattle.std.proofs.Common.{◌≡◌, ℕ, arith, List, [], ◌∷◌, ◌++◌, Some, sym, ap, ◌∙◌, subst, append_assoc, append-nil, map, length, ◌==◌}
 use Rattle.std.specs.List.{AllByRecursion, IsDistinct, list_any}
 use Rattle.std.proofs.lemmas.List.{length-map}
-use Rattle.cx_tokens.specs.Nodes.{IsTokenList, TokenNode, before, behind, is_live, node_of, partner_in, partner_of, tokens}
+use Rattle.cx_tokens.specs.Nodes.{IsTokenList, TokenNode, before, behind, is_live, partner_in, partner_of}
 use Rattle.cx_tokens.specs.Brackets.{IsPaired, nothing, other, pair}
 use Rattle.cx_tokens.specs.Edits.{IsKept}
 use Rattle.cx_tokens.specs.Pairing.{named}
@@ -51,8 +51,8 @@ paired_mated (pair a b inner rest w t p q h k) all f g e =
     ) in
     subst (AreMated all) (sym w) whole
   where
-  same_some : {n m : ℕ} → Some n ≡ Some m → n ≡ m
-  same_some r = cc
+    same_some : {n m : ℕ} → Some n ≡ Some m → n ≡ m
+    same_some r = cc
 
 mated_mutual : (all : List TokenNode) → IsNumbered all → AreMated all all → (n m : ℕ) → partner_of n all ≡ Some m → partner_of m all ≡ Some n
 mated_mutual all d h n m e =

@@ -1,11 +1,10 @@
 -- Numbers, places and partners in lists of nodes.
-use Rattle.std.proofs.Common.{◌≡◌, ℕ, ◌+◌, ◌<◌, ◌≤◌, arith, List, [], ◌∷◌, ◌++◌, Option, Some, None, Bool, true, false, not, ◌&&◌, ◌||◌, refl, sym, ap, ap₂, ◌∙◌, subst, append_assoc, append-nil, ◌⊎◌, inl, inr, ⊎_elim, cond, map, length, ◌==◌, eqb}
-use Rattle.std.specs.List.{AllByRecursion, IsDistinct, find, list_any}
-use Rattle.std.proofs.lemmas.Bool.{cond-true, cond-false, cases_Bool, or_cases, or_from, or_left, or_parts, or_right, eqb-true, eq-eqb, false_from_ne_true}
+use Rattle.std.proofs.Common.{◌≡◌, ℕ, arith, List, [], ◌∷◌, ◌++◌, Some, None, true, false, ◌||◌, refl, sym, ap, ◌∙◌, subst, ◌⊎◌, ⊎_elim, cond, map, ◌==◌}
+use Rattle.std.specs.List.{AllByRecursion, IsDistinct}
+use Rattle.std.proofs.lemmas.Bool.{cases_Bool, or_cases, or_from, or_left, or_parts, or_right, eqb-true, eq-eqb}
 use Rattle.std.proofs.lemmas.Bool.Decides.{nat_tests}
 use Rattle.std.proofs.lemmas.List.Folds.{list_any-append}
-use Rattle.cx_tokens.specs.declared.token.Token.{Token}
-use Rattle.cx_tokens.specs.Nodes.{IsTokenList, TokenNode, before, behind, from_on, is_live, live_partner, node_of, partner_in, partner_of, settled, up_to}
+use Rattle.cx_tokens.specs.Nodes.{TokenNode, before, behind, from_on, is_live, node_of, partner_in, partner_of, up_to}
 
 -- the numbers are distinct
 abbrev pub IsNumbered : List TokenNode → Type 0

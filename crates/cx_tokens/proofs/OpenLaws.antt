@@ -1,13 +1,12 @@
 -- One token more, with brackets left open.
-use Rattle.std.proofs.Common.{◌≡◌, ℕ, ◌+◌, ◌<◌, ◌≤◌, arith, List, [], ◌∷◌, ◌++◌, Option, Some, None, Bool, true, false, refl, sym, ap, ap₂, ◌∙◌, subst, append_assoc, append-nil, cond, map, length, length-append, reverse, take, drop, get_or, set, take-append-drop, IfSome, MatchOption}
-use Rattle.std.proofs.lemmas.Bool.{both_ways, cond-true, cond-false, false_from_ne_true, cases_Bool}
-use Rattle.std.proofs.lemmas.List.{drop_all, drop_more, get_or_at, length-take-le, map-append, reverse-append, reverse-reverse, take_all, take_more}
+use Rattle.std.proofs.Common.{◌≡◌, ℕ, ◌+◌, ◌<◌, ◌≤◌, arith, List, [], ◌∷◌, ◌++◌, Option, Some, None, true, false, refl, sym, ap, ◌∙◌, subst, append_assoc, append-nil, cond, length, length-append, reverse, take, drop, get_or, take-append-drop, MatchOption}
+use Rattle.std.proofs.lemmas.List.{drop_more, get_or_at, length-take-le, map-append, reverse-append, reverse-reverse, take_all, take_more}
 use Rattle.cx_base.specs.declared.place.Place.{Place}
 use Rattle.cx_tokens.specs.declared.token.Token.{Token}
 use Rattle.cx_tokens.specs.Nodes.{TokenNode, tokens}
-use Rattle.cx_tokens.specs.Brackets.{DoesNotFit, IsNested, IsOpen, IsPaired, IsUnpaired, closes, fits, left_open, more, none, nothing, opens, other, pair, unfit}
+use Rattle.cx_tokens.specs.Brackets.{DoesNotFit, IsNested, IsOpen, IsUnpaired, closes, fits, left_open, more, none, nothing, opens, other, pair, unfit}
 use Rattle.cx_tokens.specs.Pairing.{AreNested, AreOpen, Innermost, IsRead}
-use Rattle.cx_tokens.proofs.BracketLaws.{fitting_parts, nested_append}
+use Rattle.cx_tokens.proofs.BracketLaws.{nested_append}
 
 -- ---- what stays open
 
@@ -100,7 +99,7 @@ read_close f x s j h k =
     record {
       left = m.lefts;
       are_open = subst (λ t. AreOpen AreNested t (reverse s) m.lefts) (sym (ap (λ t. t ++ x ∷ []) m.whole ∙ append_assoc m.front (m.bracket ∷ m.inner) (x ∷ [])))
-      (open_append AreNested m.front (m.bracket ∷ (m.inner ++ x ∷ [])) (reverse s) m.lefts m.before_it (pair_nested m.bracket x m.inner k m.good));
+          (open_append AreNested m.front (m.bracket ∷ (m.inner ++ x ∷ [])) (reverse s) m.lefts m.before_it (pair_nested m.bracket x m.inner k m.good));
     }
 
 pub read_unfit : (f back : List TokenNode) (x : TokenNode) (s : List ℕ) (j : ℕ) → (h : IsRead f (s ++ j ∷ [])) → closes x.token ≡ true → fits (innermost f s j h).bracket.token x.token ≡ false
@@ -152,9 +151,9 @@ index_close xs i j x a s old l r q k e h o is =
     let f = is ∙ ap (λ t. cond (fits t.token x.token) None (Some x.token.place)) same in
     subst (λ t. MatchOption t (IsRead (take (i + 1) xs) s) (λ at. IsUnpaired (tokens xs) at)) (sym f)
     (elim (fits m.bracket.token x.token)
-    as (λ b. fits m.bracket.token x.token ≡ b → MatchOption (cond b None (Some x.token.place)) (IsRead (take (i + 1) xs) s) (λ at. IsUnpaired (tokens xs) at))
-    [ true ↦ λ fit. subst (λ t. IsRead t s) (sym (one_more xs i x l r)) (read_close (take i xs) x s j g fit)
-    | false ↦ λ fit. subst (λ t. IsUnpaired (tokens t) x.token.place) (sym (split_there xs i x l r)) (read_unfit (take i xs) (drop (i + 1) xs) x s j g k fit)
+    as (λ b. fits m.bracket.token x.token ≡ b → MatchOption (cond b None (Some x.token.place)) (IsRead (take (i + 1) xs) s) (λ at. IsUnpaired (tokens xs) at)) [
+      | true ↦ λ fit. subst (λ t. IsRead t s) (sym (one_more xs i x l r)) (read_close (take i xs) x s j g fit)
+      | false ↦ λ fit. subst (λ t. IsUnpaired (tokens t) x.token.place) (sym (split_there xs i x l r)) (read_unfit (take i xs) (drop (i + 1) xs) x s j g k fit)
     ]
     refl)
 

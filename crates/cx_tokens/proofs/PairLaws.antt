@@ -1,14 +1,13 @@
 -- Writing the partners of brackets, one token after another.
-use Rattle.std.proofs.Common.{◌≡◌, ℕ, ◌+◌, ◌<◌, ◌≤◌, arith, List, [], ◌∷◌, ◌++◌, Option, Some, None, Bool, true, false, refl, sym, ap, ap₂, ◌∙◌, subst, append_assoc, append-nil, cond, map, length, length-append, length-set, reverse, take, drop, get_or, set, take-append-drop, ◌⊎◌, ⊎_elim, ◌==◌, ◌≢◌}
-use Rattle.std.specs.List.{IsDistinct, list_any}
-use Rattle.std.proofs.lemmas.Bool.{both_ways, cond-true, cond-false, false_from_ne_true, cases_Bool}
-use Rattle.std.proofs.lemmas.List.{drop_all, drop_more, drop-set-lt, get_or-set_other, length-take-le, map-set, set-append_left, set-get_or, set_at, take_all, take_at, drop_at, take_more_set, get_or-map}
+use Rattle.std.proofs.Common.{◌≡◌, ℕ, ◌+◌, ◌<◌, ◌≤◌, arith, List, [], ◌∷◌, ◌++◌, Option, Some, None, true, false, refl, sym, ap, ◌∙◌, subst, append_assoc, map, length, length-append, length-set, reverse, take, drop, get_or, set, take-append-drop, ⊎_elim, ◌≢◌}
+use Rattle.std.proofs.lemmas.Bool.{cond-true, cond-false, cases_Bool}
+use Rattle.std.proofs.lemmas.List.{drop_all, drop_more, drop-set-lt, get_or-set_other, length-take-le, map-set, set-get_or, set_at, take_all, take_at, drop_at, take_more_set, get_or-map}
 use Rattle.cx_tokens.specs.declared.token.Token.{Token}
-use Rattle.cx_tokens.specs.Nodes.{IsTokenList, TokenNode, is_live, node_of, partner_in, partner_of, tokens}
+use Rattle.cx_tokens.specs.Nodes.{TokenNode, tokens}
 use Rattle.cx_tokens.specs.Brackets.{IsNested, IsPaired, closes, fits, nothing, opens, other, pair}
-use Rattle.cx_tokens.specs.Pairing.{AreOpen, Innermost, IsHalfPaired, fault, fits_first, named, place_first, with_partner, without_first}
+use Rattle.cx_tokens.specs.Pairing.{AreOpen, Innermost, IsHalfPaired, fault, named, place_first, with_partner}
 use Rattle.cx_tokens.proofs.BracketLaws.{fault_close, fault_end, fault_open, fault_other, nested_no_fault}
-use Rattle.cx_tokens.proofs.OpenLaws.{at_bracket, last_first, no_stack, one_more, open_append, open_push, split_there, within}
+use Rattle.cx_tokens.proofs.OpenLaws.{at_bracket, last_first, no_stack, one_more, open_append, open_push, split_there}
 
 pub paired_append : {a b : List TokenNode} → IsPaired a → IsPaired b → IsPaired (a ++ b)
 paired_append nothing k = k
@@ -24,14 +23,16 @@ half_start xs s e n = subst (IsHalfPaired xs 0) (sym e) (record { left = []; are
 pub half_end : (xs : List TokenNode) (i : ℕ) (s : List ℕ) → length xs ≤ i → IsHalfPaired xs i s → IsPaired xs × (s ≡ [])
 half_end xs i s l h = at_end (reverse s) refl (subst (λ t. AreOpen IsPaired t (reverse s) h.left) (take_all i xs l) h.are_open)
   where
-  end_left : (left : List Token) → place_first left ≡ None → left ≡ []
-  end_left [] e = refl
-  end_left (a ∷ left) e = absurd cc
-  none_left : h.left ≡ []
-  none_left = end_left h.left (sym (fault_end h.left) ∙ ap (λ t. fault h.left (tokens t)) (sym (drop_all i xs l)) ∙ h.no_fault)
-  at_end : (js : List ℕ) → reverse s ≡ js → AreOpen IsPaired xs js h.left → IsPaired xs × (s ≡ [])
-  at_end [] e o = (o.0, no_stack s e)
-  at_end (j ∷ js) e o = absurd (let a = o.is_left in let b = none_left in cc)
+    end_left : (left : List Token) → place_first left ≡ None → left ≡ []
+    end_left [] e = refl
+    end_left (a ∷ left) e = absurd cc
+
+    none_left : h.left ≡ []
+    none_left = end_left h.left (sym (fault_end h.left) ∙ ap (λ t. fault h.left (tokens t)) (sym (drop_all i xs l)) ∙ h.no_fault)
+
+    at_end : (js : List ℕ) → reverse s ≡ js → AreOpen IsPaired xs js h.left → IsPaired xs × (s ≡ [])
+    at_end [] e o = (o.0, no_stack s e)
+    at_end (j ∷ js) e o = absurd (let a = o.is_left in let b = none_left in cc)
 
 -- one node more in front, written, with what stays open
 pub half_next : (xs new : List TokenNode) (i : ℕ) (s : List ℕ) (f : List TokenNode) (left : List Token) → take (i + 1) new ≡ f → drop (i + 1) new ≡ drop (i + 1) xs → AreOpen IsPaired f (reverse s) left

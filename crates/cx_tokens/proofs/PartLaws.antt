@@ -1,13 +1,10 @@
 -- Edits keep token lists, and part the nodes that they take away from their partners.
-use Rattle.std.proofs.Common.{◌≡◌, ℕ, ◌+◌, ◌<◌, ◌≤◌, arith, List, [], ◌∷◌, ◌++◌, Option, Some, None, Bool, true, false, not, ◌&&◌, ◌||◌, refl, sym, ap, ap₂, ◌∙◌, subst, append_assoc, append-nil, ◌⊎◌, inl, inr, ⊎_elim, cond, map, length, ◌==◌, eqb}
-use Rattle.std.specs.List.{AllByRecursion, IsDistinct, find, list_any}
-use Rattle.std.proofs.lemmas.Bool.{cond-true, cond-false, cases_Bool, or_cases, or_from, or_left, or_parts, or_right, eqb-true, eq-eqb, false_from_ne_true}
-use Rattle.std.proofs.lemmas.Bool.Decides.{nat_tests}
-use Rattle.std.proofs.lemmas.Option.{same_Some}
-use Rattle.cx_tokens.specs.declared.token.Token.{Token}
-use Rattle.cx_tokens.specs.Nodes.{IsTokenList, TokenNode, is_live, live_partner, new_node, node_of, partner_in, partner_of, settled}
-use Rattle.cx_tokens.specs.Edits.{IsKept, numbered, parted, parted_one, without}
-use Rattle.cx_tokens.proofs.NodeLaws.{IsNumbered, dead_both, dead_parts, live_append, live_cases, live_left, live_right, node_dead, node_left, node_right, numbered_append, numbered_apart, numbered_cons, numbered_head, numbered_left, numbered_none, numbered_right, numbered_tail, own_number, partner_live}
+use Rattle.std.proofs.Common.{◌≡◌, ℕ, List, [], ◌∷◌, ◌++◌, Option, Some, None, Bool, true, false, ◌||◌, refl, sym, ap, ap₂, ◌∙◌, subst, append_assoc, ⊎_elim, cond, map, ◌==◌}
+use Rattle.std.specs.List.{AllByRecursion, IsDistinct, list_any}
+use Rattle.std.proofs.lemmas.Bool.{cond-true, cond-false, cases_Bool, or_left, eq-eqb, false_from_ne_true}
+use Rattle.cx_tokens.specs.Nodes.{IsTokenList, TokenNode, is_live, live_partner, node_of, partner_in, partner_of, settled}
+use Rattle.cx_tokens.specs.Edits.{parted, parted_one, without}
+use Rattle.cx_tokens.proofs.NodeLaws.{IsNumbered, dead_both, dead_parts, live_cases, live_left, live_right, node_left, node_right, numbered_append, numbered_apart, numbered_left, numbered_right, partner_live}
 
 -- ---- settled lists
 
@@ -163,7 +160,7 @@ mates_behind : (front xs : List TokenNode) → IsTokenList (front ++ xs) → Are
 mates_behind front [] l = tt
 mates_behind front (x ∷ xs) l = (
   mate_from (front ++ x ∷ xs) x.partner
-  (λ m e. partner_live m x.number (front ++ x ∷ xs) (l.mutual_partners x.number m (ap partner_in (node_at front x xs l.distinct) ∙ e))),
+      (λ m e. partner_live m x.number (front ++ x ∷ xs) (l.mutual_partners x.number m (ap partner_in (node_at front x xs l.distinct) ∙ e))),
   let q = append_assoc front (x ∷ []) xs in subst (λ t. AreMates t xs) q (mates_behind (front ++ x ∷ []) xs (subst IsTokenList (sym q) l)),
 )
 

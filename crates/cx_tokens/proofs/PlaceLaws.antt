@@ -1,7 +1,7 @@
 -- What stands at a place.
-use Rattle.std.proofs.Common.{◌≡◌, ℕ, ◌+◌, ◌-◌, ◌<◌, ◌≤◌, arith, List, [], ◌∷◌, ◌++◌, Option, Some, None, Bool, true, false, refl, sym, ap, ap₂, ◌∙◌, subst, cond, map, length, length-append, ◌==◌, take, drop, get_or, suc, zero, append_assoc, IfSome, IsTrue, slice_get, sub-one}
-use Rattle.std.proofs.lemmas.Bool.{both_ways, cond-false, eq-eqb, false_from_ne_true, or_left, or_parts, or_right}
-use Rattle.std.proofs.lemmas.List.{drop_at, get_or_at, take_at, length-take-le}
+use Rattle.std.proofs.Common.{◌≡◌, ℕ, ◌-◌, ◌≤◌, arith, List, [], ◌∷◌, ◌++◌, Option, Some, None, true, false, refl, sym, ap, ap₂, ◌∙◌, subst, cond, length, length-append, ◌==◌, take, drop, get_or, suc, zero, append_assoc, IfSome, IsTrue, sub-one, ⊎_elim}
+use Rattle.std.proofs.lemmas.Bool.{both_ways, cases_Bool, cond-false, eq-eqb, false_from_ne_true, or_left, or_parts, or_right}
+use Rattle.std.proofs.lemmas.List.{drop_at, get_or_at, take_at}
 use Rattle.cx_tokens.specs.Nodes.{TokenNode, before, behind, first_of, from_on, inserted, is_live, last_of, node_of, up_to}
 use Rattle.cx_tokens.specs.Edits.{place_behind}
 use Rattle.cx_tokens.proofs.NodeLaws.{IsNumbered, found, live_left, live_right, numbered_apart}
@@ -15,9 +15,9 @@ last_live [] = tt
 last_live (x ∷ []) = or_left _ _ (eq-eqb x.number x.number refl)
 last_live (x ∷ y ∷ xs) = live_on x (y ∷ xs) (last_of (y ∷ xs)) (last_live (y ∷ xs))
   where
-  live_on : (x : TokenNode) (xs : List TokenNode) (o : Option ℕ) → IfSome o (λ n. IsTrue (is_live n xs)) → IfSome o (λ n. IsTrue (is_live n (x ∷ xs)))
-  live_on x xs None h = tt
-  live_on x xs (Some n) h = or_right _ _ h
+    live_on : (x : TokenNode) (xs : List TokenNode) (o : Option ℕ) → IfSome o (λ n. IsTrue (is_live n xs)) → IfSome o (λ n. IsTrue (is_live n (x ∷ xs)))
+    live_on x xs None h = tt
+    live_on x xs (Some n) h = or_right _ _ h
 
 pub live_within : (a b : List TokenNode) (o : Option ℕ) → IfSome o (λ n. IsTrue (is_live n b)) → IfSome o (λ n. IsTrue (is_live n (a ++ b)))
 live_within a b None h = tt
@@ -86,3 +86,50 @@ in_order m n xs d l h =
 pub last_before : (i : ℕ) (xs : List TokenNode) → (i ≡ 0 → ⊥) → i ≤ length xs → last_of (take i xs) ≡ first_of (drop (i - 1) xs)
 last_before zero xs n h = absurd (n refl)
 last_before (suc i) xs n h = rw sub-one (last_taken i xs h)
+
+-- ---- what stands behind another
+
+from_dead : (m : ℕ) (xs : List TokenNode) → is_live m xs ≡ false → from_on m xs ≡ []
+unfolding from_on
+from_dead m [] h = refl
+from_dead m (x ∷ xs) h = let p = or_parts _ _ h in cond-false (x.number == m) (x ∷ xs) (from_on m xs) p.0 ∙ from_dead m xs p.1
+
+behind_append : (n : ℕ) (a b : List TokenNode) → is_live n a ≡ false → behind n (a ++ b) ≡ behind n b
+unfolding behind
+behind_append n [] b h = refl
+behind_append n (x ∷ a) b h = let p = or_parts _ _ h in cond-false (x.number == n) (a ++ b) (behind n (a ++ b)) p.0 ∙ behind_append n a b p.1
+
+live_behind : (n m : ℕ) (xs : List TokenNode) → is_live n (behind m xs) ≡ true → is_live n xs ≡ true
+unfolding behind
+live_behind n m [] h = h
+live_behind n m (x ∷ xs) h =
+    elim (x.number == m) as (λ b. is_live n (cond b xs (behind m xs)) ≡ true → is_live n (x ∷ xs) ≡ true)
+    [ true ↦ λ k. or_right _ _ k | false ↦ λ k. or_right _ _ (live_behind n m xs k) ] h
+
+pub from_itself : (n : ℕ) (xs : List TokenNode) → is_live n xs ≡ true → is_live n (from_on n xs) ≡ true
+from_itself n xs h = let f = found n xs h in subst (λ t. is_live n t ≡ true) (sym f.from_there) (or_left _ _ (eq-eqb f.node.number n f.number))
+
+live_in_behind : (n m k : ℕ) (xs : List TokenNode) → IsNumbered xs → is_live m (from_on k xs) ≡ true → is_live n (behind m xs) ≡ true → is_live n (from_on k xs) ≡ true
+live_in_behind n m k xs d h l =
+    ⊎_elim
+    (λ (a : is_live k xs ≡ true).
+    let f = found k xs a in
+    let ys = f.node ∷ behind k xs in
+    let there : is_live m ys ≡ true = subst (λ t. is_live m t ≡ true) f.from_there h in
+    let dead : is_live m (before k xs) ≡ false = false_from_ne_true (is_live m (before k xs))
+    (λ e. both_ways (is_live m ys) (numbered_apart (before k xs) ys (subst IsNumbered f.whole d) m e) there) in
+    let e : behind m xs ≡ behind m ys = ap (behind m) f.whole ∙ behind_append m (before k xs) ys dead in
+    subst (λ t. is_live n t ≡ true) (sym f.from_there) (live_behind n m ys (subst (λ t. is_live n t ≡ true) e l)))
+    (λ (a : is_live k xs ≡ false). absurd (both_ways (is_live m (from_on k xs)) (ap (is_live m) (from_dead k xs a)) h))
+    (cases_Bool (is_live k xs))
+
+pub order_next : (m k : ℕ) (xs : List TokenNode) (o : Option ℕ) → IsNumbered xs → is_live m (from_on k xs) ≡ true → o ≡ first_of (behind m xs) → IfSome o (λ n. IsTrue (is_live n (from_on k xs)))
+order_next m k xs o d h e = subst (λ t. IfSome t (λ n. IsTrue (is_live n (from_on k xs)))) (sym e) (within_from (first_of (behind m xs)) (first_live (behind m xs)))
+  where
+    within_from : (o : Option ℕ) → IfSome o (λ n. IsTrue (is_live n (behind m xs))) → IfSome o (λ n. IsTrue (is_live n (from_on k xs)))
+    within_from None l = tt
+    within_from (Some n) l = live_in_behind n m k xs d h l
+
+pub inserted_live : (at : Option ℕ) (x : TokenNode) (xs : List TokenNode) → is_live x.number (inserted at x xs) ≡ true
+inserted_live None x xs = or_left _ _ (eq-eqb x.number x.number refl)
+inserted_live (Some n) x xs = live_right x.number (up_to n xs) (x ∷ behind n xs) (or_left _ _ (eq-eqb x.number x.number refl))

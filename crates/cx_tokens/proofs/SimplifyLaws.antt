@@ -1,7 +1,7 @@
 -- The sweep computes the simplified list, and simplifies no more where it has been.
-use Rattle.std.proofs.Common.{◌≡◌, ℕ, List, [], ◌∷◌, ◌++◌, Option, Some, None, Bool, true, false, not, ◌&&◌, refl, sym, ap, ap₂, ◌∙◌, subst, append_assoc, append-nil, cond, codes, ◌⊎◌, ⊎_elim, ◌==◌, bytes_eq}
-use Rattle.std.specs.List.{AllByRecursion, list_any}
-use Rattle.std.proofs.lemmas.Bool.{and_from, and_left, and_parts, and_right, both_ways, cases_Bool, cond-true, cond-false, not-true, not_from_false}
+use Rattle.std.proofs.Common.{◌≡◌, ℕ, List, [], ◌∷◌, ◌++◌, Option, Some, None, Bool, true, false, not, ◌&&◌, refl, sym, ap, ◌∙◌, subst, append_assoc, append-nil, cond, codes, ⊎_elim, ◌==◌}
+use Rattle.std.specs.List.{AllByRecursion}
+use Rattle.std.proofs.lemmas.Bool.{and_from, and_left, and_parts, and_right, cases_Bool, cond-true, cond-false, not-true, not_from_false}
 use Rattle.cx_tokens.specs.declared.simplify.State.{State}
 use Rattle.cx_tokens.specs.declared.simplify.State.TheVariants.{Behind, Plain, Within}
 use Rattle.cx_tokens.specs.declared.token.Kind.{Kind}
@@ -82,9 +82,9 @@ joined_behind d x (y ∷ ys) =
     let j = joined_node x y in
     ap (λ t. put_all t ys) (put_last d x y)
     ∙ elim (are_strings x y)
-    as (λ b. put_all (cond b (d ++ j ∷ []) (d ++ x ∷ y ∷ [])) ys ≡ d ++ cond b (with_strings j ys) (x ∷ with_strings y ys))
-    [ true ↦ joined_behind d j ys
-    | false ↦ ap (λ t. put_all t ys) (sym (append_assoc d (x ∷ []) (y ∷ []))) ∙ joined_behind (d ++ x ∷ []) y ys ∙ append_assoc d (x ∷ []) (with_strings y ys)
+    as (λ b. put_all (cond b (d ++ j ∷ []) (d ++ x ∷ y ∷ [])) ys ≡ d ++ cond b (with_strings j ys) (x ∷ with_strings y ys)) [
+      | true ↦ joined_behind d j ys
+      | false ↦ ap (λ t. put_all t ys) (sym (append_assoc d (x ∷ []) (y ∷ []))) ∙ joined_behind (d ++ x ∷ []) y ys ∙ append_assoc d (x ∷ []) (with_strings y ys)
     ]
 
 all_joined : (xs : List TokenNode) → put_all [] xs ≡ strings_joined xs
@@ -236,8 +236,8 @@ stays_same state x xs h =
     let e : entered state x ≡ entered Plain x = stays_plain (entered state x) x h ∙ entered_plain x in
     ap (λ s. cond (keeps s x) (x ∷ kept (after s x) xs) (kept (after s x) xs)) e
   where
-  entered_plain : (x : TokenNode) → Plain ≡ entered Plain x
-  entered_plain x = refl
+    entered_plain : (x : TokenNode) → Plain ≡ entered Plain x
+    entered_plain x = refl
 
 pub stopped_partly : (old new : List TokenNode) → IsStopped old new → IsPartlySimplified old new
 stopped_partly old new h =
@@ -249,7 +249,7 @@ stopped_partly old new h =
       whole = h.whole;
       made = h.made ∙ ap (λ t. t ++ rest) (swept_simplified h.front);
       same_end = sym (swept_simplified new) ∙ ap (λ t. put_all [] (kept Plain t)) h.made ∙ sweep_more h.front rest
-      ∙ ap (put_all (put_all [] (kept Plain h.front))) (sym (stays_same state h.next h.rest h.stays))
-      ∙ sym (put_all_append [] (kept Plain h.front) (kept state rest)) ∙ ap (put_all []) (sym (kept_append Plain h.front rest))
-      ∙ ap (λ t. put_all [] (kept Plain t)) (sym h.whole) ∙ swept_simplified old;
+          ∙ ap (put_all (put_all [] (kept Plain h.front))) (sym (stays_same state h.next h.rest h.stays))
+          ∙ sym (put_all_append [] (kept Plain h.front) (kept state rest)) ∙ ap (put_all []) (sym (kept_append Plain h.front rest))
+          ∙ ap (λ t. put_all [] (kept Plain t)) (sym h.whole) ∙ swept_simplified old;
     }

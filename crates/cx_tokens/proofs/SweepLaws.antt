@@ -1,15 +1,13 @@
 -- Simplifying one node more.
-use Rattle.std.proofs.Common.{◌≡◌, ℕ, zero, suc, ◌+◌, ◌-◌, ◌<◌, ◌≤◌, arith, List, [], ◌∷◌, ◌++◌, Option, Some, None, Bool, true, false, not, ◌&&◌, refl, sym, ap, ap₂, ◌∙◌, subst, append_assoc, append-nil, cond, codes, map, length, length-append, length-set, take, drop, get_or, set, take-append-drop, ◌⊎◌, ⊎_elim, ◌==◌}
+use Rattle.std.proofs.Common.{◌≡◌, ℕ, zero, suc, ◌+◌, ◌-◌, ◌<◌, ◌≤◌, arith, List, [], ◌∷◌, ◌++◌, Bool, true, false, refl, sym, ap, ap₂, ◌∙◌, subst, append_assoc, append-nil, cond, length, length-set, take, drop, get_or, set}
 use Rattle.std.specs.List.{remove}
-use Rattle.std.proofs.lemmas.Bool.{and_from, and_parts, both_ways, cases_Bool, cond-true, cond-false}
+use Rattle.std.proofs.lemmas.Bool.{cond-true, cond-false}
 use Rattle.std.proofs.lemmas.List.{drop_all, drop_at, drop_more, drop-set-lt, get_or_default, length-take-le, take_all, take_at, take_more_set}
 use Rattle.cx_tokens.specs.declared.simplify.State.{State}
-use Rattle.cx_tokens.specs.declared.simplify.State.TheVariants.{Behind, Plain, Within}
-use Rattle.cx_tokens.specs.declared.token.Token.{Token}
+use Rattle.cx_tokens.specs.declared.simplify.State.TheVariants.{Plain}
 use Rattle.cx_tokens.specs.Nodes.{TokenNode}
-use Rattle.cx_tokens.specs.Brackets.{is_punctuator}
-use Rattle.cx_tokens.specs.Simplified.{attribute_words, goes_with, is_string, is_word_of, joined, lone_words, parts_of, simplified, strings_joined, unadorned, with_strings}
-use Rattle.cx_tokens.specs.Sweeping.{IsStopped, IsSwept, after, are_strings, entered, joined_node, keeps, kept, put_all, put_one, skipping, state_behind, with_text}
+use Rattle.cx_tokens.specs.Simplified.{joined, parts_of}
+use Rattle.cx_tokens.specs.Sweeping.{IsStopped, IsSwept, after, are_strings, entered, joined_node, keeps, kept, put_all, put_one, state_behind, with_text}
 use Rattle.cx_tokens.proofs.OpenLaws.{one_more, split_there}
 
 -- ---- one node read in two ways
@@ -117,8 +115,8 @@ swept_front : (all xs : List TokenNode) (i : ℕ) (state : State) (x : TokenNode
 swept_front all xs i state x l r h =
     h.whole ∙ ap (λ t. h.front ++ t) (rest_there xs i x l r) ∙ sym (append_assoc h.front (x ∷ []) (drop (i + 1) xs))
   where
-  rest_there : (xs : List TokenNode) (i : ℕ) (x : TokenNode) → i < length xs → x ≡ get_or xs i x → drop i xs ≡ x ∷ drop (i + 1) xs
-  rest_there xs i x l r = drop_more xs i x l ∙ ap (λ t. t ∷ drop (i + 1) xs) (sym r)
+    rest_there : (xs : List TokenNode) (i : ℕ) (x : TokenNode) → i < length xs → x ≡ get_or xs i x → drop i xs ≡ x ∷ drop (i + 1) xs
+    rest_there xs i x l r = drop_more xs i x l ∙ ap (λ t. t ∷ drop (i + 1) xs) (sym r)
 
 swept_state : (state : State) (front : List TokenNode) (x : TokenNode) → state ≡ state_behind Plain front → after (entered state x) x ≡ state_behind Plain (front ++ x ∷ [])
 unfolding state_behind
@@ -130,7 +128,7 @@ swept_keep all xs new i j state x l r k t d h = record {
   front = h.front ++ x ∷ [];
   whole = swept_front all xs i state x l r h ∙ ap (λ s. (h.front ++ x ∷ []) ++ s) (sym d);
   made = t ∙ ap (λ s. put_one s x) h.made ∙ sym (put_all_one (put_all [] (kept Plain h.front)) x) ∙ sym (put_all_append [] (kept Plain h.front) (x ∷ []))
-  ∙ ap (put_all []) (ap (λ s. kept Plain h.front ++ s) (sym (kept_one (state_behind Plain h.front) x (subst (λ s. keeps (entered s x) x ≡ true) h.state_is k))) ∙ sym (kept_append Plain h.front (x ∷ [])));
+      ∙ ap (put_all []) (ap (λ s. kept Plain h.front ++ s) (sym (kept_one (state_behind Plain h.front) x (subst (λ s. keeps (entered s x) x ≡ true) h.state_is k))) ∙ sym (kept_append Plain h.front (x ∷ [])));
   state_is = swept_state state h.front x h.state_is;
 }
 
@@ -143,7 +141,7 @@ swept_drop all xs new i state x l r k w h =
       front = h.front ++ x ∷ [];
       whole = swept_front all xs i state x l r h ∙ ap (λ s. (h.front ++ x ∷ []) ++ s) (ap (λ n. drop n xs) (sym e) ∙ sym (drop_at (take i xs) (drop (suc i) xs) i long) ∙ ap (drop i) (sym w));
       made = ap (take i) w ∙ take_at (take i xs) (drop (suc i) xs) i long ∙ h.made
-      ∙ ap (put_all []) (sym (append-nil (kept Plain h.front)) ∙ ap (λ s. kept Plain h.front ++ s) (sym (kept_none (state_behind Plain h.front) x (subst (λ s. keeps (entered s x) x ≡ false) h.state_is k))) ∙ sym (kept_append Plain h.front (x ∷ [])));
+          ∙ ap (put_all []) (sym (append-nil (kept Plain h.front)) ∙ ap (λ s. kept Plain h.front ++ s) (sym (kept_none (state_behind Plain h.front) x (subst (λ s. keeps (entered s x) x ≡ false) h.state_is k))) ∙ sym (kept_append Plain h.front (x ∷ [])));
       state_is = swept_state state h.front x h.state_is;
     }
 

@@ -1,19 +1,18 @@
 -- The sweep keeps brackets paired, and the nodes a token list.
-use Rattle.std.proofs.Common.{◌≡◌, ℕ, ◌+◌, ◌<◌, ◌≤◌, arith, List, [], ◌∷◌, ◌++◌, Option, Some, None, Bool, true, false, not, ◌&&◌, ◌||◌, refl, sym, ap, ap₂, ◌∙◌, subst, append_assoc, append-nil, cond, codes, length, map, ◌⊎◌, ⊎_elim, ◌==◌}
-use Rattle.std.specs.List.{IsDistinct}
-use Rattle.std.proofs.lemmas.Bool.{and_left, and_parts, both_ways, cases_Bool, cond-true, cond-false, eq-eqb, eqb-true, false_from_ne_true, or_cases, or_from, or_left, or_parts, or_right}
+use Rattle.std.proofs.Common.{◌≡◌, ℕ, ◌≤◌, arith, List, [], ◌∷◌, ◌++◌, Option, Some, None, Bool, true, false, not, ◌&&◌, refl, sym, ap, ◌∙◌, subst, append-nil, cond, codes, length, ⊎_elim, ◌==◌}
+use Rattle.std.proofs.lemmas.Bool.{and_left, and_parts, both_ways, cases_Bool, cond-true, cond-false, eq-eqb, false_from_ne_true, or_cases, or_from, or_left, or_right}
 use Rattle.cx_tokens.specs.declared.simplify.State.{State}
 use Rattle.cx_tokens.specs.declared.simplify.State.TheVariants.{Behind, Plain, Within}
 use Rattle.cx_tokens.specs.declared.token.Kind.{Kind}
 use Rattle.cx_tokens.specs.declared.token.Kind.TheVariants as kinds
 use Rattle.cx_tokens.specs.declared.token.Token.{Token}
 use Rattle.cx_tokens.specs.Nodes.{TokenNode, is_live}
-use Rattle.cx_tokens.specs.Brackets.{IsPaired, closes, fits, is_punct, is_punctuator, opens}
+use Rattle.cx_tokens.specs.Brackets.{IsPaired, closes, is_punct, is_punctuator, opens}
 use Rattle.cx_tokens.specs.Simplified.{attribute_words, is_name, is_string, is_word_of, joined, lone_words}
 use Rattle.cx_tokens.specs.Edits.{IsKept}
-use Rattle.cx_tokens.specs.Sweeping.{IsStopped, after, are_strings, entered, joined_node, keeps, kept, put_all, put_one, skipping, state_behind}
-use Rattle.cx_tokens.proofs.NodeLaws.{IsNumbered, numbered_cons, numbered_head, numbered_none, numbered_tail, own_number}
-use Rattle.cx_tokens.proofs.BracketLaws.{closing_opens_not, fitting_parts, opening_closes_not}
+use Rattle.cx_tokens.specs.Sweeping.{IsStopped, after, are_strings, entered, joined_node, keeps, kept, put_all, put_one, state_behind}
+use Rattle.cx_tokens.proofs.NodeLaws.{IsNumbered, numbered_cons, numbered_head, numbered_tail, own_number}
+use Rattle.cx_tokens.proofs.BracketLaws.{closing_opens_not, fitting_parts}
 use Rattle.cx_tokens.proofs.BalanceLaws.{IsBalanced, balanced_paired, closed, done, is_balanced, opened, passed}
 use Rattle.cx_tokens.proofs.MateLaws.{paired_list}
 use Rattle.cx_tokens.proofs.SimplifyLaws.{at_opening, at_other}
@@ -262,8 +261,8 @@ less_drop x a b h = record { numbered = λ d. h.numbered (numbered_tail x b d); 
 less_cons : (x y : TokenNode) (a b : List TokenNode) → x.number ≡ y.number → IsLess a b → IsLess (x ∷ a) (y ∷ b)
 less_cons x y a b e h = record {
   numbered = λ d. numbered_cons x a
-  (false_from_ne_true (is_live x.number a) (λ l. both_ways (is_live y.number b) (numbered_head y b d) (subst (λ n. is_live n b ≡ true) e (h.live x.number l))))
-  (h.numbered (numbered_tail y b d));
+      (false_from_ne_true (is_live x.number a) (λ l. both_ways (is_live y.number b) (numbered_head y b d) (subst (λ n. is_live n b ≡ true) e (h.live x.number l))))
+      (h.numbered (numbered_tail y b d));
   live = λ n l. ⊎_elim (λ (m : (x.number == n) ≡ true). or_left _ _ (subst (λ k. (k == n) ≡ true) e m)) (λ (m : is_live n a ≡ true). or_right _ _ (h.live n m)) (or_cases _ _ l);
   shorter = (let p = h.shorter in omega arith);
 }

@@ -1,8 +1,8 @@
 -- What the edits of a token list compute.
-use Rattle.std.specs.Prelude.{◌≡◌, ℕ, ◌+◌, ◌<◌, ◌≤◌, List, [], ◌∷◌, ◌++◌, Bool, true, cond, ◌==◌, Option, Some, None, length, map, slice_range, take, drop}
+use Rattle.std.specs.Prelude.{◌≡◌, ℕ, ◌+◌, ◌<◌, ◌≤◌, List, [], ◌∷◌, ◌++◌, true, cond, ◌==◌, Option, Some, None, length, map, slice_range, take, drop}
 use Rattle.std.specs.List.{list_any}
 use Rattle.cx_tokens.specs.declared.token.Token.{Token}
-use Rattle.cx_tokens.specs.Nodes.{IsTokenList, TokenNode, before, is_live, new_node, up_to}
+use Rattle.cx_tokens.specs.Nodes.{IsTokenList, TokenNode, before, is_live, new_node}
 
 -- What each token list keeps, with the number of the next node, the room for open brackets, and those that are open.
 pub record IsKept (nodes : List TokenNode) (next room : ℕ) (open_ones : List ℕ) : Type 0 where

@@ -1,5 +1,5 @@
 -- How a token list is simplified, one node after another.
-use Rattle.std.specs.Prelude.{◌≡◌, ℕ, List, [], ◌∷◌, ◌++◌, Bool, true, false, not, cond, ◌&&◌, ◌==◌, Option, Some, None, codes, length, take, drop}
+use Rattle.std.specs.Prelude.{◌≡◌, ℕ, List, [], ◌∷◌, ◌++◌, Bool, true, false, not, cond, ◌&&◌, ◌==◌, Option, Some, None, codes, take, drop}
 use Rattle.cx_tokens.specs.declared.simplify.State.{State}
 use Rattle.cx_tokens.specs.declared.simplify.State.TheVariants.{Behind, Plain, Within}
 use Rattle.cx_tokens.specs.Nodes.{TokenNode}

@@ -176,7 +176,12 @@ fn numbers_of(alloc: Global, entries: &[Entry]) -> Result<Vec<u32>, NoMemory>
 }
 
 // Puts entries in the place of those from `start` up to `end`; a refused call changes nothing.
-fn replace(entries: &mut Vec<Entry>, start: usize, end: usize, news: Vec<Entry>) -> Result<(), NoMemory>
+fn replace(
+    entries: &mut Vec<Entry>,
+    start: usize,
+    end: usize,
+    news: Vec<Entry>,
+) -> Result<(), NoMemory>
     requires ordered { start ≤ end }
     requires within { end ≤ length entries.old.items }
     ensures ok { OnOk result (entries.new.items ≡ take start entries.old.items ++ (news.items ++ drop end entries.old.items)) }
@@ -211,7 +216,11 @@ pub fn put(entries: &mut Vec<Entry>, from: Node, to: Node, news: Vec<Entry>) -> 
 
 // Copies the tokens of entries, with numbers from `number` on and without partners.
 #[tactic(auto, unfolding(crate::specs::Edits::numbered))]
-pub fn renumbered(alloc: Global, number: u32, entries: &[Entry]) -> Result<(Vec<Entry>, u32), NoMemory>
+pub fn renumbered(
+    alloc: Global,
+    number: u32,
+    entries: &[Entry],
+) -> Result<(Vec<Entry>, u32), NoMemory>
     ensures entries { IfOk result (λ made. made.0.items ≡ numbered number (tokens entries.now)) }
     ensures next { IfOk result (λ made. made.1 ≡ number + length entries.now) }
 {

@@ -1,10 +1,15 @@
 //! Laws of token lists.
-ghost use Rattle.std.specs.Prelude.{◌≡◌, List as list, map};
+ghost use Rattle.std.specs.Prelude.{◌≡◌, ℕ, List as list, IsTrue, map};
 ghost use Rattle.cx_base.specs.declared.place.Place.{Place as place};
 ghost use Rattle.cx_tokens.specs.declared.token.Token.{Token as token};
 ghost use Rattle.cx_tokens.specs.Brackets.{IsNested, IsPaired, IsUnpaired};
 ghost use Rattle.cx_tokens.specs.Simplified.{simplified};
-ghost use Rattle.cx_tokens.specs.Nodes.{TokenNode, tokens};
+ghost use Rattle.cx_tokens.specs.Nodes.{TokenNode, from_on, is_live, tokens};
+
+/// A node stands at itself or behind it.
+pub fn from_itself()
+    ensures { (n : ℕ) (nodes : list TokenNode) → IsTrue (is_live n nodes) → IsTrue (is_live n (from_on n nodes)) }
+{}
 
 /// At most one pairing fits a list of numbers and tokens.
 pub fn one_pairing()

@@ -1,9 +1,9 @@
 //! Preprocessing tokens of C (ISO/IEC 9899:2011, 6.4), and lists of them with edits.
 #![tactic(auto)]
 
+pub use laws::{from_itself, nested_are_not_unpaired, one_fault, one_pairing, simplified_once};
 pub use node::Node;
 pub use token::{Kind, Token};
-pub use laws::{nested_are_not_unpaired, one_fault, one_pairing, simplified_once};
 pub use token_list::{TokenList, Unpaired};
 
 mod bracket;
@@ -11,5 +11,7 @@ mod entry;
 mod laws;
 mod node;
 mod simplify;
+#[cfg(test)]
+mod tests;
 mod token;
 mod token_list;

@@ -21,13 +21,13 @@ impl Model for Node {
 
 impl Node {
     // The node of a number.
-    pub fn of(number: u32) -> Node
+    pub(crate) fn of(number: u32) -> Node
         ensures { result ≡ number }
     {
         Node { number }
     }
 
-    pub fn number(self) -> u32
+    pub(crate) fn number(self) -> u32
         ensures { result ≡ self }
     {
         self.number

@@ -5,7 +5,9 @@ ghost use Rattle.cx_tokens.specs.Simplified.{IsPartlySimplified, simplified};
 ghost use Rattle.cx_tokens.specs.Nodes.{AreNew, IsTokenList, before, behind, erased, first_of, from_on, inserted, is_live, last_of, new_node, new_nodes, node_of, partner_of, spliced, tokens};
 
 use crate::bracket::{fault, pair};
-use crate::entry::{copy_of, entry_of, node_at, node_before, part, place_behind, place_of, put, renumbered, Entry};
+use crate::entry::{
+    Entry, copy_of, entry_of, node_at, node_before, part, place_behind, place_of, put, renumbered,
+};
 use crate::node::Node;
 use crate::simplify::sweep;
 use crate::token::Token;
@@ -64,8 +66,9 @@ impl TokenList {
     /// Puts a token in, behind a node or first, and answers its node. A refused call changes nothing
     /// and gives the token up.
     pub fn insert_after(&mut self, at: Option<Node>, token: Token) -> Result<Node, NoMemory>
-        requires live { IfSome at (λ n. IsTrue (is_live n self.old)) }
+        requires at_live { IfSome at (λ n. IsTrue (is_live n self.old)) }
         ensures fresh { IfOk result (λ n. ¬ (IsTrue (is_live n self.old))) }
+        ensures live { IfOk result (λ n. IsTrue (is_live n self.new)) }
         ensures ok { IfOk result (λ n. self.new ≡ inserted at (new_node n token) self.old) }
         ensures err { OnErr result (self.new ≡ self.old) }
     {
@@ -124,6 +127,7 @@ impl TokenList {
         requires live { IsTrue (is_live at self.now) }
         ensures node { result ≡ first_of (behind at self.now) }
         ensures live { IfSome result (λ n. IsTrue (is_live n self.now)) }
+        ensures order { (from : ℕ) → IsTrue (is_live at (from_on from self.now)) → IfSome result (λ n. IsTrue (is_live n (from_on from self.now))) }
     {
         let entries = self.entries.as_slice();
         node_at(entries, place_behind(entries, Some(at)))

@@ -1,4 +1,4 @@
-use Rattle.std.proofs.Common.{◌≡◌, ◌≤◌, arith, ap, length, refl, sym, subst, vec_len}
+use Rattle.std.proofs.Common.{◌≤◌, arith, ap, length, refl, sym, subst, vec_len}
 use Rattle.cx_tokens.specs.Nodes.{tokens}
 use Rattle.cx_tokens.specs.Brackets.{IsUnpaired}
 use Rattle.cx_tokens.proofs.OpenLaws.{index_left, read_start}

@@ -1,4 +1,4 @@
-use Rattle.std.proofs.Common.{◌≡◌, ◌≤◌, length, map, vec_capacity, vec_len}
+use Rattle.std.proofs.Common.{◌≡◌, ◌≤◌, map, vec_capacity, vec_len}
 use Rattle.cx_tokens.specs.Pairing.{IsHalfPaired, named}
 use Rattle.cx_tokens.proofs.bracket.pair.Given as goal
 

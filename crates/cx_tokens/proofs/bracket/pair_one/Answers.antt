@@ -1,4 +1,4 @@
-use Rattle.std.proofs.Common.{◌≡◌, ◌<◌, true, false, [], Some, None, map, set, get_or, arith, sym, ap, ◌∙◌}
+use Rattle.std.proofs.Common.{◌≡◌, ◌<◌, true, false, Some, None, map, set, get_or, arith, sym, ap, ◌∙◌}
 use Rattle.std.proofs.lemmas.List.{get_or_default, nil_from_length}
 use Rattle.cx_tokens.specs.Brackets.{closes, opens}
 use Rattle.cx_tokens.specs.Pairing.{named, with_partner}
@@ -6,7 +6,7 @@ use Rattle.cx_tokens.proofs.PairLaws.{half_close, half_none, half_open, half_oth
 use Rattle.cx_tokens.proofs.bracket.pair_one.Goals as goal
 
 pub returns-then-opens-clause-so_far : goal.returns-then-opens-clause-so_far
-returns-then-opens-clause-so_far c = 
+returns-then-opens-clause-so_far c =
     let xs = c.args.entries.now.items in
     let i = c.args.index in
     let x = c.index.result.now in
@@ -14,7 +14,7 @@ returns-then-opens-clause-so_far c =
     half_open xs i x c.args.stack.now.items c.push_reserved.new.self.items c.requires.within c.index.ensures o c.push_reserved.ensures.items c.requires.so_far
 
 pub returns-then-not-closes-clause-so_far : goal.returns-then-not-closes-clause-so_far
-returns-then-not-closes-clause-so_far c = 
+returns-then-not-closes-clause-so_far c =
     let xs = c.args.entries.now.items in
     let i = c.args.index in
     let x = c.index.result.now in
@@ -23,14 +23,14 @@ returns-then-not-closes-clause-so_far c =
     half_other xs c.set_partner.new.entries.items i x c.args.stack.now.items c.requires.within c.index.ensures o k (c.set_partner.ensures x c.index.ensures) c.requires.so_far
 
 pub returns-then-not-closes-clause-named : goal.returns-then-not-closes-clause-named
-returns-then-not-closes-clause-named c = 
+returns-then-not-closes-clause-named c =
     let xs = c.args.entries.now.items in
     let i = c.args.index in
     let x = c.index.result.now in
     ap (map named) (c.set_partner.ensures x c.index.ensures) ∙ named_set xs i x None c.requires.within c.index.ensures
 
 pub returns-in-Some-clause-so_far : goal.returns-in-Some-clause-so_far
-returns-in-Some-clause-so_far c = 
+returns-in-Some-clause-so_far c =
     let xs = c.args.entries.now.items in
     let i = c.args.index in
     let x = c.index.result.now in
@@ -44,7 +44,7 @@ returns-in-Some-clause-so_far c =
     half_close xs c.link.new.entries.items i j a x c.pop.new.self.items c.args.stack.now.items c.requires.within c.index.ensures at_j k c.in-Some.ensures.items w c.requires.so_far
 
 pub returns-in-Some-clause-named : goal.returns-in-Some-clause-named
-returns-in-Some-clause-named c = 
+returns-in-Some-clause-named c =
     let xs = c.args.entries.now.items in
     let i = c.args.index in
     let x = c.index.result.now in
@@ -57,7 +57,7 @@ returns-in-Some-clause-named c =
     ap (map named) w ∙ named_pair xs i j a x c.requires.within j_first c.index.ensures at_j
 
 pub returns-in_default-clause-so_far : goal.returns-in_default-clause-so_far
-returns-in_default-clause-so_far c = 
+returns-in_default-clause-so_far c =
     let xs = c.args.entries.now.items in
     let i = c.args.index in
     let x = c.index.result.now in

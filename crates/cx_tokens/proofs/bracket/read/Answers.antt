@@ -1,4 +1,4 @@
-use Rattle.std.proofs.Common.{◌≡◌, true, false, cond, [], Some, None, arith, sym, ap, ap₂, ◌∙◌, subst}
+use Rattle.std.proofs.Common.{◌≡◌, true, false, cond, [], Some, None, sym, ap, ap₂, ◌∙◌, subst}
 use Rattle.std.proofs.lemmas.List.{nil_from_length}
 use Rattle.cx_tokens.specs.Nodes.{tokens}
 use Rattle.cx_tokens.specs.Brackets.{IsUnpaired, closes, fits, opens}

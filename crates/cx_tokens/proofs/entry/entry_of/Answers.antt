@@ -1,4 +1,4 @@
-use Rattle.std.proofs.Common.{get_or, sym, ◌∙◌, ap, subst, ◌≡◌}
+use Rattle.std.proofs.Common.{get_or, subst, ◌≡◌}
 use Rattle.cx_tokens.proofs.PlaceLaws.{at_place}
 use Rattle.cx_tokens.proofs.entry.entry_of.Goals as goal
 

@@ -1,5 +1,4 @@
-use Rattle.std.proofs.Common.{arith, ◌∙◌, sym, ap}
-use Rattle.std.proofs.lemmas.Bool.{eqb-true, eqb-false}
+use Rattle.std.proofs.Common.{arith}
 use Rattle.cx_tokens.proofs.StepLaws.{place_here, place_later, place_past, place_within}
 use Rattle.cx_tokens.proofs.entry.place_of.Goals as goal
 

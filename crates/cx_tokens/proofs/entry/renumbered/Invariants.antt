@@ -1,4 +1,4 @@
-use Rattle.std.proofs.Common.{◌≡◌, ◌++◌, ◌+◌, length, drop}
+use Rattle.std.proofs.Common.{◌≡◌, ◌++◌, ◌+◌, drop}
 use Rattle.cx_tokens.specs.Nodes.{tokens}
 use Rattle.cx_tokens.specs.Edits.{numbered}
 use Rattle.cx_tokens.proofs.entry.renumbered.Given as goal

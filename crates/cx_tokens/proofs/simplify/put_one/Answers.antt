@@ -25,7 +25,7 @@ returns-clause-made c = λ x r.
     put_joined xs c.join.new.entries.items i y x c.if-index-eq0.false c.requires c.index.ensures e (c.in_ok-join.ensures.ok y x c.index.ensures r)
 
 pub returns-clause-rest : goal.returns-clause-rest
-returns-clause-rest c = 
+returns-clause-rest c =
     let xs = c.args.entries.now.items in
     let i = c.args.index in
     let y = c.index.result.now in

@@ -7,7 +7,7 @@ use Rattle.cx_tokens.proofs.PlaceLaws.{at_place}
 use Rattle.cx_tokens.proofs.token_list.TokenList.erase.Goals as goal
 
 pub invariant_of-self : goal.invariant_of-self
-invariant_of-self c = 
+invariant_of-self c =
     let xs = c.self.inside.entries.items in
     let live : is_live c.args.at xs ≡ true = subst (λ t. is_live c.args.at t ≡ true) (sym c.self.view_is) c.requires.live in
     let e : c.part.new.entries.items ≡ parted (c.args.at ∷ []) (remove xs (length (before c.args.at xs))) = cc in
@@ -15,7 +15,7 @@ invariant_of-self c =
     (kept_erased c.args.at xs c.self.inside.next (vec_capacity c.self.inside.stack) c.self.inside.stack.items live c.self.invariant)
 
 pub returns-clause-token : goal.returns-clause-token
-returns-clause-token c = 
+returns-clause-token c =
     let xs = c.self.inside.entries.items in
     let live : is_live c.args.at xs ≡ true = subst (λ t. is_live c.args.at t ≡ true) (sym c.self.view_is) c.requires.live in
     let x = c.remove-entry.result in
@@ -25,7 +25,7 @@ returns-clause-token c =
     subst (λ o. IfSome o (λ y. c.into_token.result ≡ y.token)) (sym m) c.into_token.ensures
 
 pub returns-clause-rest : goal.returns-clause-rest
-returns-clause-rest c = 
+returns-clause-rest c =
     let xs = c.self.inside.entries.items in
     let live : is_live c.args.at xs ≡ true = subst (λ t. is_live c.args.at t ≡ true) (sym c.self.view_is) c.requires.live in
     let e : c.part.new.entries.items ≡ parted (c.args.at ∷ []) (remove xs (length (before c.args.at xs))) = cc in

@@ -1,7 +1,6 @@
-use Rattle.std.proofs.Common.{◌≡◌, map, sym, ap, ◌∙◌, subst, vec_capacity}
+use Rattle.std.proofs.Common.{map, sym, ap, ◌∙◌, subst, vec_capacity}
 use Rattle.cx_tokens.specs.Nodes.{tokens}
 use Rattle.cx_tokens.specs.Brackets.{IsNested, IsUnpaired}
-use Rattle.cx_tokens.specs.Pairing.{named}
 use Rattle.cx_tokens.proofs.BalanceLaws.{named_parts}
 use Rattle.cx_tokens.proofs.BracketLaws.{nested_not_unpaired}
 use Rattle.cx_tokens.proofs.MateLaws.{kept_paired}

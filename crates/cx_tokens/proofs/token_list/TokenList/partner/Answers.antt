@@ -4,7 +4,7 @@ use Rattle.cx_tokens.proofs.NodeLaws.{partner_live}
 use Rattle.cx_tokens.proofs.token_list.TokenList.partner.Goals as goal
 
 pub returns-clause-live : goal.returns-clause-live
-returns-clause-live c = 
+returns-clause-live c =
     let xs = c.self.inside.entries.items in
     let p : partner_of c.args.at xs ≡ Some c.of.result =
     ap (partner_of c.args.at) (sym c.as_slice.ensures.value) ∙ ap partner_in c.entry_of.ensures ∙ sym c.partner.ensures ∙ c.in_ok-number.was ∙ ap Some (sym c.of.ensures) in
@@ -12,7 +12,7 @@ returns-clause-live c =
     subst (λ t. is_live c.of.result t ≡ true) c.self.view_is (partner_live c.of.result c.args.at xs q)
 
 pub returns-clause-mutual : goal.returns-clause-mutual
-returns-clause-mutual c = 
+returns-clause-mutual c =
     let xs = c.self.inside.entries.items in
     let p : partner_of c.args.at xs ≡ Some c.of.result =
     ap (partner_of c.args.at) (sym c.as_slice.ensures.value) ∙ ap partner_in c.entry_of.ensures ∙ sym c.partner.ensures ∙ c.in_ok-number.was ∙ ap Some (sym c.of.ensures) in

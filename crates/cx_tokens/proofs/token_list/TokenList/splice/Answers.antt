@@ -6,7 +6,7 @@ use Rattle.cx_tokens.proofs.KeptLaws.{kept_spliced, numbers_new, run_order, spli
 use Rattle.cx_tokens.proofs.token_list.TokenList.splice.Goals as goal
 
 pub put-requires-clause-live : goal.put-requires-clause-live
-put-requires-clause-live c = 
+put-requires-clause-live c =
     let xs = c.self.inside.entries.items in
     let from_live : is_live c.args.from xs ≡ true = subst (λ t. is_live c.args.from t ≡ true) (sym c.self.view_is) c.requires.from_live in
     let to_live : is_live c.args.to xs ≡ true = subst (λ t. is_live c.args.to t ≡ true) (sym c.self.view_is) c.requires.to_live in
@@ -14,7 +14,7 @@ put-requires-clause-live c =
     to_live
 
 pub put-requires-clause-ordered : goal.put-requires-clause-ordered
-put-requires-clause-ordered c = 
+put-requires-clause-ordered c =
     let xs = c.self.inside.entries.items in
     let from_live : is_live c.args.from xs ≡ true = subst (λ t. is_live c.args.from t ≡ true) (sym c.self.view_is) c.requires.from_live in
     let to_live : is_live c.args.to xs ≡ true = subst (λ t. is_live c.args.to t ≡ true) (sym c.self.view_is) c.requires.to_live in
@@ -22,7 +22,7 @@ put-requires-clause-ordered c =
     run_order c.args.from c.args.to xs c.self.inside.next (vec_capacity c.self.inside.stack) c.self.inside.stack.items c.self.invariant from_live order
 
 pub invariant_of-self-2 : goal.invariant_of-self-2
-invariant_of-self-2 c = 
+invariant_of-self-2 c =
     let xs = c.self.inside.entries.items in
     let from_live : is_live c.args.from xs ≡ true = subst (λ t. is_live c.args.from t ≡ true) (sym c.self.view_is) c.requires.from_live in
     let to_live : is_live c.args.to xs ≡ true = subst (λ t. is_live c.args.to t ≡ true) (sym c.self.view_is) c.requires.to_live in
@@ -44,7 +44,7 @@ invariant_of-self-2 c =
     from_live to_live order c.self.invariant later r (c.reserve.ensures.items ∙ c.self.invariant.none_open))
 
 pub returns-clause-ok : goal.returns-clause-ok
-returns-clause-ok c = 
+returns-clause-ok c =
     let xs = c.self.inside.entries.items in
     let from_live : is_live c.args.from xs ≡ true = subst (λ t. is_live c.args.from t ≡ true) (sym c.self.view_is) c.requires.from_live in
     let to_live : is_live c.args.to xs ≡ true = subst (λ t. is_live c.args.to t ≡ true) (sym c.self.view_is) c.requires.to_live in
@@ -55,8 +55,7 @@ returns-clause-ok c =
     let news : c.in_ok-news.news.items ≡ numbered next ts = c.in_ok-news.ensures.entries ∙ ap (numbered next) same in
     let e : c.put.new.entries.items ≡ put c.args.from c.args.to (numbered next ts) xs = c.in_ok-put.ensures.ok ∙ ap (λ t. put c.args.from c.args.to t xs) news in
     let new = numbers_new xs next (vec_capacity c.self.inside.stack) c.self.inside.stack.items ts c.self.invariant in
-    let s = spliced_is c.args.from c.args.to xs next (vec_capacity c.self.inside.stack) c.self.inside.stack.items ts from_live to_live order c.self.invariant in
-    (
+    let s = spliced_is c.args.from c.args.to xs next (vec_capacity c.self.inside.stack) c.self.inside.stack.items ts from_live to_live order c.self.invariant in (
       numbers_from next ts,
       subst (AreNew (numbers_from next ts) ts) c.self.view_is new,
       e ∙ s ∙ ap (spliced c.args.from c.args.to (new_nodes (numbers_from next ts) ts)) c.self.view_is,
