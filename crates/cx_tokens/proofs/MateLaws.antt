@@ -54,14 +54,16 @@ paired_mated (pair a b inner rest w t p q h k) all f g e =
     same_some : {n m : ℕ} → Some n ≡ Some m → n ≡ m
     same_some r = cc
 
+mate_partner : (all : List TokenNode) (x : TokenNode) (m : ℕ) → IsNumbered all → HasMate all x m → partner_of m all ≡ Some x.number
+mate_partner all x m d k =
+    let a = ap partner_in (node_at k.front k.mate k.back (subst IsNumbered k.whole d)) ∙ k.mutual_one in
+    subst (λ t. partner_of m t ≡ Some x.number) (sym k.whole) (subst (λ n. partner_of n (k.front ++ k.mate ∷ k.back) ≡ Some x.number) k.number a)
+
 mated_mutual : (all : List TokenNode) → IsNumbered all → AreMated all all → (n m : ℕ) → partner_of n all ≡ Some m → partner_of m all ≡ Some n
 mated_mutual all d h n m e =
     let f = found n all (partner_live n m all e) in
     let p : f.node.partner ≡ Some m = sym (ap partner_in f.is_node) ∙ e in
-    let k = mated_at all (before n all) (behind n all) f.node (subst (AreMated all) f.whole h) m p in
-    let i = node_at k.front k.mate k.back (subst IsNumbered k.whole d) in
-    let a : partner_of k.mate.number all ≡ k.mate.partner = ap (partner_of k.mate.number) k.whole ∙ ap partner_in i in
-    subst (λ t. partner_of t all ≡ Some n) k.number (a ∙ k.mutual_one ∙ ap Some f.number)
+    mate_partner all f.node m d (mated_at all (before n all) (behind n all) f.node (subst (AreMated all) f.whole h) m p) ∙ ap Some f.number
 
 pub paired_list : (all : List TokenNode) → IsPaired all → IsNumbered all → IsTokenList all
 paired_list all h d = record { distinct = d; mutual_partners = mated_mutual all d (paired_mated h all [] [] (sym (append-nil all))) }

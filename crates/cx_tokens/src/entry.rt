@@ -100,7 +100,7 @@ impl Entry {
     }
 }
 
-// The index of the node of a number.
+// The index of a node, or the length where the list has no such node.
 pub fn place_of(entries: &[Entry], node: Node) -> usize
     ensures place { result ≡ length (before node entries.now) }
     ensures within { IsTrue (is_live node entries.now) → result < length entries.now }
@@ -113,7 +113,7 @@ pub fn place_of(entries: &[Entry], node: Node) -> usize
     entries.len()
 }
 
-// The index behind the node of a number, or of the start.
+// The index behind a node, or 0 for the start.
 #[tactic(auto, unfolding(crate::specs::Edits::place_behind))]
 pub fn place_behind(entries: &[Entry], node: Option<Node>) -> usize
     requires { IfSome node (λ n. IsTrue (is_live n entries.now)) }
