@@ -133,3 +133,29 @@ order_next m k xs o d h e = subst (λ t. IfSome t (λ n. IsTrue (is_live n (from
 pub inserted_live : (at : Option ℕ) (x : TokenNode) (xs : List TokenNode) → is_live x.number (inserted at x xs) ≡ true
 inserted_live None x xs = or_left _ _ (eq-eqb x.number x.number refl)
 inserted_live (Some n) x xs = live_right x.number (up_to n xs) (x ∷ behind n xs) (or_left _ _ (eq-eqb x.number x.number refl))
+
+from_append : (n : ℕ) (a b : List TokenNode) → is_live n a ≡ false → from_on n (a ++ b) ≡ from_on n b
+unfolding from_on
+from_append n [] b h = refl
+from_append n (x ∷ a) b h = let p = or_parts _ _ h in cond-false (x.number == n) (x ∷ (a ++ b)) (from_on n (a ++ b)) p.0 ∙ from_append n a b p.1
+
+live_from : (n m : ℕ) (xs : List TokenNode) → is_live n (from_on m xs) ≡ true → is_live n xs ≡ true
+unfolding from_on
+live_from n m [] h = h
+live_from n m (x ∷ xs) h =
+    elim (x.number == m) as (λ b. is_live n (cond b (x ∷ xs) (from_on m xs)) ≡ true → is_live n (x ∷ xs) ≡ true)
+    [ true ↦ λ k. k | false ↦ λ k. or_right _ _ (live_from n m xs k) ] h
+
+pub from_on_from : (k m n : ℕ) (xs : List TokenNode) → IsNumbered xs → is_live m (from_on k xs) ≡ true → is_live n (from_on m xs) ≡ true → is_live n (from_on k xs) ≡ true
+from_on_from k m n xs d h l =
+    ⊎_elim
+    (λ (a : is_live k xs ≡ true).
+    let f = found k xs a in
+    let ys = f.node ∷ behind k xs in
+    let there : is_live m ys ≡ true = subst (λ t. is_live m t ≡ true) f.from_there h in
+    let dead : is_live m (before k xs) ≡ false = false_from_ne_true (is_live m (before k xs))
+    (λ e. both_ways (is_live m ys) (numbered_apart (before k xs) ys (subst IsNumbered f.whole d) m e) there) in
+    let e : from_on m xs ≡ from_on m ys = ap (from_on m) f.whole ∙ from_append m (before k xs) ys dead in
+    subst (λ t. is_live n t ≡ true) (sym f.from_there) (live_from n m ys (subst (λ t. is_live n t ≡ true) e l)))
+    (λ (a : is_live k xs ≡ false). absurd (both_ways (is_live m (from_on k xs)) (ap (is_live m) (from_dead k xs a)) h))
+    (cases_Bool (is_live k xs))

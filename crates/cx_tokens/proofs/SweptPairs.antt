@@ -1,17 +1,17 @@
 -- The sweep keeps brackets paired, and the nodes a token list.
-use Rattle.std.proofs.Common.{◌≡◌, ℕ, ◌≤◌, arith, List, [], ◌∷◌, ◌++◌, Option, Some, None, Bool, true, false, not, ◌&&◌, refl, sym, ap, ◌∙◌, subst, append-nil, cond, codes, length, ⊎_elim, ◌==◌}
+use Rattle.std.proofs.Common.{◌≡◌, ℕ, ◌≤◌, arith, List, [], ◌∷◌, ◌++◌, Option, Some, None, IfSome, IsTrue, Bool, true, false, not, ◌&&◌, refl, sym, ap, ◌∙◌, subst, append-nil, cond, codes, length, ⊎_elim, ◌==◌}
 use Rattle.std.proofs.lemmas.Bool.{and_left, and_parts, both_ways, cases_Bool, cond-true, cond-false, eq-eqb, false_from_ne_true, or_cases, or_from, or_left, or_right}
 use Rattle.cx_tokens.specs.declared.simplify.State.{State}
 use Rattle.cx_tokens.specs.declared.simplify.State.TheVariants.{Behind, Plain, Within}
 use Rattle.cx_tokens.specs.declared.token.Kind.{Kind}
 use Rattle.cx_tokens.specs.declared.token.Kind.TheVariants as kinds
 use Rattle.cx_tokens.specs.declared.token.Token.{Token}
-use Rattle.cx_tokens.specs.Nodes.{TokenNode, is_live}
+use Rattle.cx_tokens.specs.Nodes.{TokenNode, before, behind, from_on, is_live, node_of, partner_in, partner_of}
 use Rattle.cx_tokens.specs.Brackets.{IsPaired, closes, is_punct, is_punctuator, opens}
 use Rattle.cx_tokens.specs.Simplified.{attribute_words, is_name, is_string, is_word_of, joined, lone_words}
 use Rattle.cx_tokens.specs.Edits.{IsKept}
 use Rattle.cx_tokens.specs.Sweeping.{IsStopped, after, are_strings, entered, joined_node, keeps, kept, put_all, put_one, state_behind}
-use Rattle.cx_tokens.proofs.NodeLaws.{IsNumbered, numbered_cons, numbered_head, numbered_tail, own_number}
+use Rattle.cx_tokens.proofs.NodeLaws.{IsNumbered, found, numbered_cons, numbered_head, numbered_tail, own_number, partner_live}
 use Rattle.cx_tokens.proofs.BracketLaws.{closing_opens_not, fitting_parts}
 use Rattle.cx_tokens.proofs.BalanceLaws.{IsBalanced, balanced_paired, closed, done, is_balanced, opened, passed}
 use Rattle.cx_tokens.proofs.MateLaws.{paired_list}
@@ -313,3 +313,23 @@ part_kept old new next room stack s k p =
     let rest = s.next ∷ s.rest in
     kept_fewer old new next room stack k (part_paired old new s p k.is_list.distinct)
     (subst (λ t. IsLess new t) (sym s.whole) (subst (λ t. IsLess t (s.front ++ rest)) (sym s.made) (swept_less s.front rest)))
+
+-- ---- a closing bracket stands behind the one that it closes
+
+-- nodes, with the brackets that are open in front of them
+record StandsOpen (rest : List TokenNode) : Type 0 where
+  stack : List TokenNode
+  balanced : IsBalanced stack rest
+
+behind_front : (front rest stack : List TokenNode) → IsBalanced stack (front ++ rest) → StandsOpen rest
+behind_front [] rest stack h = record { stack = stack; balanced = h }
+behind_front (x ∷ front) rest stack h = let o = onward h in behind_front front rest o.next o.balanced
+
+pub closes_behind : (nodes : List TokenNode) (n m : ℕ) → IsPaired nodes → IfSome (node_of n nodes) (λ x. IsTrue (opens x.token)) → partner_of n nodes ≡ Some m → is_live m (from_on n nodes) ≡ true
+closes_behind nodes n m h o p =
+    let f = found n nodes (partner_live n m nodes p) in
+    let b = behind_front (before n nodes) (f.node ∷ behind n nodes) [] (subst (IsBalanced []) f.whole (is_balanced h)) in
+    let is : opens f.node.token ≡ true = subst (λ t. IfSome t (λ x. IsTrue (opens x.token))) f.is_node o in
+    let r = later (open_first b.balanced is) [] f.node b.stack refl in
+    let partner : f.node.partner ≡ Some m = sym (ap partner_in f.is_node) ∙ p in
+    subst (λ t. is_live m t ≡ true) (sym f.from_there) (or_right _ _ (subst (λ k. is_live k (behind n nodes) ≡ true) (same_partner r.1 partner) r.2))

@@ -1,7 +1,10 @@
 //! Preprocessing tokens of C (ISO/IEC 9899:2011, 6.4), and lists of them with edits.
 #![tactic(auto)]
 
-pub use laws::{from_itself, nested_are_not_unpaired, one_fault, one_pairing, simplified_once};
+pub use laws::{
+    closes_behind, from_itself, from_on_from, nested_are_not_unpaired, one_fault, one_pairing,
+    simplified_once,
+};
 pub use node::Node;
 pub use token::{Kind, Token};
 pub use token_list::{TokenList, Unpaired};
