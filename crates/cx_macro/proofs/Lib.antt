@@ -1,4 +1,5 @@
 pub mod CallLaws
+pub mod AnswerLaws
 pub mod BoundLaws
 pub mod OutcomeLaws
 pub mod PieceLaws

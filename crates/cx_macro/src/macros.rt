@@ -155,9 +155,24 @@ impl Macros {
         ensures fault { IfErr result (λ fault. fault ≢ MacroFault.NoMemory → ExpandsList self.now bound laid (tokens list) (refused fault)) }
         ensures only { (outcome : Outcome) → ExpandsList self.now bound laid (tokens list) outcome → Answers outcome result }
     {
+        self.expansion(alloc, list, laid, bound)
+    }
+
+    fn expansion(
+        &self,
+        alloc: Global,
+        list: TokenList,
+        laid: u32,
+        bound: u32,
+    ) -> Result<Expanded, MacroFault>
+        requires { laid ≤ bound }
+        ensures ok { IfOk result (λ x. ExpandsList self.now bound laid (tokens list) (expanded (tokens x.list) x.laid)) }
+        ensures fault { IfErr result (λ fault. fault ≢ MacroFault.NoMemory → ExpandsList self.now bound laid (tokens list) (refused fault)) }
+    {
         let ahead = tokens_of(alloc, &list)?;
         let first = first_laid(bound, laid, ahead.as_slice())?;
-        let (done, laid) = run(self, alloc, bound, first, copies(alloc, ahead.as_slice())?)?;
+        let ahead = copies(alloc, ahead.as_slice())?;
+        let (done, laid) = run(self, alloc, bound, first, ahead)?;
         let list = list_of(alloc, done.as_slice())?;
         Ok(Expanded { list, laid })
     }

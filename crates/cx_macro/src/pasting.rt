@@ -1,25 +1,15 @@
 //! What `##` makes (C11 6.10.3.3).
-ghost use Rattle.std.specs.Prelude.{◌≡◌, ◌∷◌, ◌++◌, ℕ, [], List as list, IfOk, IfSome, MatchOption, option_map};
-ghost use Rattle.cx_lex.specs.Lexing.{IsOnePiece};
-ghost use Rattle.cx_tokens.specs.declared.token.Kind.{Kind};
+ghost use Rattle.std.specs.Prelude.{◌≡◌, [], ◌∷◌, ◌++◌, IfOk, MatchOption};
 ghost use Rattle.cx_macro.specs.Parts.{parts, part_of, items_of};
 ghost use Rattle.cx_macro.specs.Replacement as meaning;
 
 use crate::hiding::common;
 use crate::parts::Piece;
 use crate::stack::Stack;
-use cx_base::{List, NoMemory, Text};
-use cx_tokens::{Kind, Token};
+use cx_base::{List, NoMemory};
+use cx_lex::one_piece;
+use cx_tokens::Token;
 use std::alloc::Global;
-
-/// The one piece that the bytes are, where they are one.
-fn one_piece(alloc: Global, bytes: &[u8]) -> Result<Option<(Kind, Text)>, NoMemory>
-    ensures { IfOk result (λ found. MatchOption found ((kind : Kind) (text : list ℕ) → ¬ IsOnePiece bytes.now kind text) (λ x. IsOnePiece bytes.now x.0 x.1)) }
-{
-    let _ = alloc;
-    let _ = bytes;
-    Err(NoMemory)
-}
 
 /// What a `##` makes of two tokens.
 #[tactic(auto, using(crate::proofs::PastingLaws::pasting))]

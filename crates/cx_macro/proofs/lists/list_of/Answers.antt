@@ -4,7 +4,7 @@ use Rattle.cx_macro.proofs.ListLaws.{made_live, made_more}
 use Rattle.cx_macro.proofs.lists.list_of.Goals as goal
 
 pub insert_after-requires : goal.insert_after-requires
-insert_after-requires c = record { live = made_live c.loop-token.list c.loop-token.last _ c.loop-token.invariant }
+insert_after-requires c = record { at_live = made_live c.loop-token.list c.loop-token.last _ c.loop-token.invariant }
 
 pub loop-token-preserved : goal.loop-token-preserved
 loop-token-preserved c =
