@@ -43,6 +43,7 @@ at_most_one bytes text other_text kind other_kind h k =
   where
     kinds : OfPiece (place_of (file_characters 0 bytes)) kind text ≡ OfPiece (place_of (file_characters 0 bytes)) other_kind other_text → kind ≡ other_kind
     kinds e = cc
+
     texts : OfPiece (place_of (file_characters 0 bytes)) kind text ≡ OfPiece (place_of (file_characters 0 bytes)) other_kind other_text → text ≡ other_text
     texts e = cc
 
@@ -68,10 +69,9 @@ is_piece bytes front rest at kind text e f g n =
     here (found (piece k cs) rest') i e r =
         let kinds : k ≡ kind = cc in
         let texts : piece_text k (bytes_of cs) ≡ text = cc in
-        let all : file_characters 0 bytes ≡ cs = i.whole_text ∙ (ap (λ x. cs ++ x) r ∙ append-nil cs) in
-        (
+        let all : file_characters 0 bytes ≡ cs = i.whole_text ∙ (ap (λ x. cs ++ x) r ∙ append-nil cs) in (
           subst (λ x. IsPiece at_start x (file_characters 0 bytes) []) kinds
-          (subst (λ x. IsPiece at_start k x []) (sym all) (subst (λ x. IsPiece at_start k cs x) r i.is_element)),
+              (subst (λ x. IsPiece at_start k x []) (sym all) (subst (λ x. IsPiece at_start k cs x) r i.is_element)),
           sym texts ∙ (ap (λ x. piece_text x (bytes_of cs)) kinds ∙ ap (λ x. piece_text kind (bytes_of x)) (sym all)),
         )
     here (open_comment place rest') i e r = absurd cc

@@ -22,7 +22,8 @@ pub fn one_piece(alloc: Global, bytes: &[u8]) -> Result<Option<(Kind, Text)>, No
         return Err(NoMemory);
     }
     let mut cursor = Cursor::new(bytes, 0);
-    let Front::OfPiece(_, kind, text) = front_element(alloc, Directive::Nothing, &mut cursor)? else {
+    let Front::OfPiece(_, kind, text) = front_element(alloc, Directive::Nothing, &mut cursor)?
+    else {
         return Ok(None);
     };
     match cursor.peek() {

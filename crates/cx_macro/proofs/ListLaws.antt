@@ -61,6 +61,7 @@ walk_next nodes at next n t found found' l w s k b f = step w.front w.rest w.who
       where
         some_same : (m n : ℕ) → ◌≡◌ {A = Option ℕ} (Some m) (Some n) → m ≡ n
         some_same m n e = cc
+
         there : (front xs : List TokenNode) (x : TokenNode) → nodes ≡ front ++ x ∷ xs → x.number ≡ n → found ≡ tokens front → Walked nodes next found'
         there front xs x e a d =
             let distinct : IsDistinct (λ a b. a == b) (map (λ y. y.number) (front ++ x ∷ xs)) = subst (λ y. IsDistinct (λ a b. a == b) (map (λ z. z.number) y)) e l.distinct in
@@ -140,10 +141,10 @@ inserted_last (y ∷ ys) None x l e = absurd (some_last y ys e)
 inserted_last nodes (Some n) x l e =
     let p = last_is nodes n (sym e) in
     let distinct : IsDistinct (λ a b. a == b) (map (λ y. y.number) (p.front ++ p.node ∷ [])) =
-        subst (λ y. IsDistinct (λ a b. a == b) (map (λ z. z.number) y)) p.whole l.distinct in
+    subst (λ y. IsDistinct (λ a b. a == b) (map (λ z. z.number) y)) p.whole l.distinct in
     let after : behind n nodes ≡ [] = ap (behind n) p.whole ∙ (ap (λ m. behind m (p.front ++ p.node ∷ [])) (sym p.number) ∙ behind_is p.front [] p.node distinct) in
     let before : up_to n nodes ≡ nodes = ap (up_to n) p.whole ∙ (ap (λ m. up_to m (p.front ++ p.node ∷ [])) (sym p.number)
-        ∙ (up_to_is p.front [] p.node distinct ∙ sym p.whole)) in
+    ∙ (up_to_is p.front [] p.node distinct ∙ sym p.whole)) in
     ap (λ y. up_to n nodes ++ x ∷ y) after ∙ ap (λ y. y ++ x ∷ []) before
 
 pub made_more : (nodes nodes' : List TokenNode) (last last' : Option ℕ) (n : ℕ) (t : Token) (made made' : List Token) → IsTokenList nodes → Made nodes last made

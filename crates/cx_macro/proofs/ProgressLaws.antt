@@ -91,9 +91,9 @@ resumes table bound laid done call after calls new e p = record {
   keeps = λ start whole h. p.keeps start whole (in_next table bound start whole laid done call after calls h e);
   less =
       let same : work_in bound laid after calls ≡ work bound laid [] (call ∷ calls) =
-          subst (λ x. work_in bound laid x calls ≡ work bound laid [] (call ∷ calls)) (sym e)
-          (ap (λ n. 2 * (bound - laid) + (2 * length call.outer.ahead + weights (drop n call.raw) + waiting calls)) (length_push call.expanded done)
-          ∙ zero_more (2 * (bound - laid)) (suspended call + waiting calls)) in
+      subst (λ x. work_in bound laid x calls ≡ work bound laid [] (call ∷ calls)) (sym e)
+      (ap (λ n. 2 * (bound - laid) + (2 * length call.outer.ahead + weights (drop n call.raw) + waiting calls)) (length_push call.expanded done)
+      ∙ zero_more (2 * (bound - laid)) (suspended call + waiting calls)) in
       subst (λ n. work bound new.laid new.level.ahead new.calls < n) same p.less;
   within = p.within;
 }
@@ -122,7 +122,7 @@ pub takes_object : (table : Table) (bound : ℕ) (t : Token) (old new : State) (
 takes_object table bound t old new d hide made news u g k e a le b c f =
     let le' : old.laid + (length news + 1) ≤ bound = subst (λ n. n ≤ bound) a le in
     let less : work bound (old.laid + (length news + 1)) (news ++ old.level.ahead) old.calls < work bound old.laid (t ∷ old.level.ahead) old.calls =
-        omega (arith, length-append news old.level.ahead) in
+    omega (arith, length-append news old.level.ahead) in
     moves table bound (λ start whole. IsBefore table bound t start whole old) (work bound old.laid (t ∷ old.level.ahead) old.calls) new
     (old.laid + (length news + 1)) old.level.done (news ++ old.level.ahead) old.calls a b c f
     (λ start whole h. on_object table bound start whole old.laid old.level.done old.level.ahead made news t hide old.calls d h u g k e le') less le'
@@ -250,9 +250,11 @@ step_resume_fails table bound old fault call calls a c f n start whole h =
 
 pub step_ends : (table : Table) (bound : ℕ) (old : State) → old.laid ≤ bound → old.level.ahead ≡ [] → old.calls ≡ []
     → StepIs table bound old (Ends old.level.done old.laid)
-step_ends table bound old le a c =
-    (le, λ start whole h. on_end table bound start whole old.laid old.level.done
-    (subst (λ x. IsOn table bound start whole old.laid old.level.done x []) a (subst (λ x. IsOn table bound start whole old.laid old.level.done old.level.ahead x) c h)))
+step_ends table bound old le a c = (
+  le,
+  λ start whole h. on_end table bound start whole old.laid old.level.done
+      (subst (λ x. IsOn table bound start whole old.laid old.level.done x []) a (subst (λ x. IsOn table bound start whole old.laid old.level.done old.level.ahead x) c h)),
+)
 
 -- the parts of the arguments as the code has them
 pub glued_along : (d : Definition) (raw raw' expanded expanded' : List (List Token)) (made : Option (List Token)) → raw ≡ raw' → expanded ≡ expanded'

@@ -129,7 +129,7 @@ module _ (table : Table) (bound : ℕ) where
   call_fault first list call laid fault h l e =
       let i = length call.expanded in
       let f = each_faulty laid (is_expanded (macro_in call) i other (macro_in call).body) (get_or call.raw i [])
-          (wanted_from (macro_in call) (i + 1) (drop (i + 1) call.raw)) fault e in
+      (wanted_from (macro_in call) (i + 1) (drop (i + 1) call.raw)) fault e in
       let g = h.each (one_refused fault) (subst (λ x. ExpandsEach table bound laid x (one_refused fault)) (sym (wanted_next (macro_in call) i call.raw l)) f) in
       leads_fault first list h.laid_before call.outer.done (call.name ∷ h.rest) fault h.leads
       (stops fault (argument_fault (macro_in call) h.parameters h.brackets call.raw fault h.is_called h.split

@@ -14,11 +14,7 @@ pub(crate) fn is_among(names: &[Text], name: &[u8]) -> bool
 
 /// The names of both.
 #[tactic(auto, unfolding(crate::specs::Hiding::common))]
-pub(crate) fn common(
-    alloc: Global,
-    names: &[Text],
-    others: &[Text],
-) -> Result<List<Text>, NoMemory>
+pub(crate) fn common(alloc: Global, names: &[Text], others: &[Text]) -> Result<List<Text>, NoMemory>
     ensures { IfOk result (λ l. l ≡ sets.common names.now others.now) }
 {
     let mut both = List::new(alloc);

@@ -21,3 +21,5 @@ mod spelling;
 mod stack;
 mod steps;
 mod stored;
+#[cfg(test)]
+mod tests;

@@ -87,11 +87,7 @@ pub(crate) fn first(tokens: &[Token]) -> Option<(&Token, &[Token])>
 
 /// The string that a `#` makes of an argument.
 #[tactic(auto, unfolding(crate::specs::Replacement::string_of))]
-pub(crate) fn string_of(
-    alloc: Global,
-    hash: &Token,
-    argument: &[Token],
-) -> Result<Token, NoMemory>
+pub(crate) fn string_of(alloc: Global, hash: &Token, argument: &[Token]) -> Result<Token, NoMemory>
     ensures { IfOk result (λ t. t ≡ meaning.string_of hash.now argument.now) }
 {
     let mut text = Text::from_slice(alloc, b"\"")?;

@@ -2,7 +2,7 @@ use Rattle.std.proofs.Common.{◌≡◌, ◌∙◌, ℕ, Bool, List, Option, ap}
 use Rattle.cx_tokens.specs.declared.token.Token.{Token}
 use Rattle.cx_macro.specs.Macros.{Definition}
 use Rattle.cx_macro.proofs.TableLaws.{put}
-use Rattle.cx_macro.proofs.macros.Macros.define.Goals as goal
+use Rattle.cx_macro.proofs.macros.Macros.put.Goals as goal
 
 with_body : Option (List (List ℕ)) → Bool → List Token → Definition
 with_body parameters variadic body = record { parameters = parameters; variadic = variadic; body = body }
