@@ -1,5 +1,5 @@
 -- What an expansion answers is the one outcome.
-use Rattle.std.proofs.Common.{◌≡◌, ◌≢◌, ℕ, ◌+◌, ◌≤◌, List, ◌⊎◌, inl, inr, Result, Ok, Err, IfErr, IfOk, length, refl, sym, ◌∙◌, ap, subst}
+use Rattle.std.proofs.Common.{◌≡◌, ◌≢◌, ℕ, ◌+◌, ◌≤◌, List, inl, inr, Result, Ok, Err, IfErr, IfOk, length, refl, sym, ◌∙◌, ap, subst}
 use Rattle.cx_tokens.specs.declared.token.Token.{Token}
 use Rattle.cx_tokens.specs.Nodes.{tokens}
 use Rattle.cx_macro.specs.declared.fault.MacroFault.{MacroFault}

@@ -1,11 +1,11 @@
 -- Where nothing is replaced, and how many tokens are laid.
-use Rattle.std.proofs.Common.{◌≡◌, ℕ, ◌+◌, ◌<◌, ◌≤◌, Bool, List, [], ◌∷◌, ◌++◌, All, Option, Some, None, length, refl, sym, ◌∙◌, ap, subst, arith}
+use Rattle.std.proofs.Common.{◌≡◌, ℕ, ◌+◌, ◌<◌, ◌≤◌, Bool, List, [], ◌∷◌, All, Option, Some, None, length, refl, sym, ◌∙◌, ap, subst, arith}
 use Rattle.std.proofs.lemmas.List.Elements.{All-head, All-tail}
 use Rattle.cx_base.specs.declared.place.Place.{Place}
 use Rattle.cx_tokens.specs.declared.token.Token.{Token}
 use Rattle.cx_macro.specs.declared.fault.MacroFault.{MacroFault}
 use Rattle.cx_macro.specs.declared.fault.MacroFault.TheVariants.{TooManyTokens}
-use Rattle.cx_macro.specs.Expansion.{ArgumentsOutcome, Expands, ExpandsEach, ExpandsList, Outcome, Replaces, Replacement, all_expanded, argument_count, argument_fault, behind_argument, behind_token, definition_at, ends, expanded, function_like, no_more, no_replacement, not_expanded, not_wanted, object_like, one_refused, refused, replacement, replacement_of, stops, token_goes, token_stays, too_long, too_many, unclosed_call, wanted, within}
+use Rattle.cx_macro.specs.Expansion.{ArgumentsOutcome, Expands, ExpandsEach, ExpandsList, Outcome, Replaces, Replacement, all_expanded, argument_count, argument_fault, behind_argument, behind_token, definition_at, ends, expanded, function_like, no_more, no_replacement, not_expanded, not_wanted, object_like, one_refused, refused, replacement_of, stops, token_goes, token_stays, too_long, too_many, unclosed_call, wanted, within}
 use Rattle.cx_macro.specs.Macros.{Table}
 use Rattle.cx_macro.proofs.UseLaws.{use_none}
 

@@ -1,5 +1,5 @@
 -- At most one outcome: each part of macro replacement gives one result.
-use Rattle.std.proofs.Common.{◌≡◌, ℕ, ◌+◌, ◌<◌, ◌≤◌, Bool, true, false, List, [], ◌∷◌, ◌++◌, Option, Some, None, refl, sym, ◌∙◌, ap, subst, arith, length}
+use Rattle.std.proofs.Common.{◌≡◌, ℕ, ◌+◌, Bool, List, [], ◌∷◌, ◌++◌, Option, Some, None, refl, sym, ◌∙◌, ap, subst, arith, length}
 use Rattle.std.proofs.lemmas.List.{same_from_push}
 use Rattle.cx_tokens.specs.declared.token.Kind.{Kind}
 use Rattle.cx_tokens.specs.declared.token.Token.{Token}
@@ -11,7 +11,7 @@ use Rattle.cx_macro.specs.Hiding.{common, with_name}
 use Rattle.cx_macro.specs.Macros.{Definition, Table}
 use Rattle.cx_macro.specs.Replacement as by
 use Rattle.cx_macro.specs.Replacement.{Glues, Joins, JoinsSides, Part, paste, tokens, tokens_of, put_behind, parts_of, other}
-use Rattle.cx_macro.specs.Expansion.{ArgumentsOutcome, Expands, ExpandsEach, ExpandsList, Outcome, Replaces, Replacement, Use, all_expanded, argument_count, argument_fault, behind_argument, behind_token, called, ends, expanded, function_like, no_more, no_replacement, not_expanded, not_wanted, object_like, one_refused, refused, replaced, replacement, replacement_of, stays, stops, token_goes, token_stays, too_long, too_many, unclosed, unclosed_call, use_of, wanted, wanted_from, within}
+use Rattle.cx_macro.specs.Expansion.{ArgumentsOutcome, Expands, ExpandsEach, ExpandsList, Outcome, Replaces, Replacement, all_expanded, argument_count, argument_fault, behind_argument, behind_token, called, ends, function_like, no_more, no_replacement, not_expanded, not_wanted, object_like, one_refused, refused, replaced, replacement_of, stays, stops, token_goes, token_stays, too_long, too_many, unclosed, unclosed_call, use_of, wanted, wanted_from, within}
 
 -- at most one kind and text are those of a piece
 abbrev pub OnePiece : Type 0

@@ -4,7 +4,6 @@ use Rattle.std.proofs.lemmas.List.{drop_more, length_push}
 use Rattle.cx_tokens.specs.declared.token.Token.{Token}
 use Rattle.cx_macro.specs.declared.expansion.Call.{Call}
 use Rattle.cx_macro.specs.declared.expansion.State.{State}
-use Rattle.cx_macro.specs.declared.expansion.Step.{Step}
 use Rattle.cx_macro.specs.declared.expansion.Step.TheVariants.{Ends, Goes}
 use Rattle.cx_macro.specs.declared.fault.MacroFault.{MacroFault}
 use Rattle.cx_macro.specs.declared.fault.MacroFault.TheVariants.{ArgumentCount, BadPaste, NoMemory, TooManyTokens, UnclosedCall}
@@ -13,7 +12,7 @@ use Rattle.cx_macro.specs.Expansion.{Expands, definition_at, refused, replaced, 
 use Rattle.cx_macro.specs.Hiding.{common, with_name}
 use Rattle.cx_macro.specs.Macros.{Definition, Table}
 use Rattle.cx_macro.specs.Replacement.{Glues, is_expanded, other, parts_of, replacing}
-use Rattle.cx_macro.specs.Steps.{Fails, FailsAt, FailsBehind, FailsIn, FailsOn, IsAt, IsBefore, IsIn, IsOn, Leads_to, Proceeds, Resumes, StepIs, Takes, macro_in, next_argument, suspended, waiting, weight_of, weights, work, work_in}
+use Rattle.cx_macro.specs.Steps.{FailsAt, FailsBehind, FailsIn, FailsOn, IsBefore, IsIn, IsOn, Leads_to, Proceeds, Resumes, StepIs, Takes, macro_in, next_argument, suspended, waiting, weights, work, work_in}
 use Rattle.cx_macro.specs.Uses.{begins_call}
 use Rattle.cx_macro.proofs.CallLaws.{arguments_weight, bracketed_length}
 use Rattle.cx_macro.proofs.StepLaws.{in_bad_paste, in_called, in_next, in_replaced, in_too_many, object_bad_paste, object_too_many, on_begins, on_end, on_miscounted, on_object, on_start, on_stays, on_unclosed}

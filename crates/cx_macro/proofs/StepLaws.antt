@@ -1,12 +1,12 @@
 -- The steps of macro replacement keep what comes of the whole.
-use Rattle.std.proofs.Common.{◌≡◌, ℕ, zero, suc, ◌+◌, ◌-◌, ◌<◌, ◌≤◌, Bool, true, false, cond, List, [], ◌∷◌, ◌++◌, Option, Some, None, refl, sym, ◌∙◌, ap, subst, arith, length, drop, get_or, add-one}
+use Rattle.std.proofs.Common.{◌≡◌, ℕ, ◌+◌, ◌<◌, ◌≤◌, Bool, true, false, cond, List, [], ◌∷◌, ◌++◌, Option, Some, None, refl, sym, ◌∙◌, ap, subst, length, drop, get_or}
 use Rattle.std.proofs.lemmas.List.{append-nil, drop_more, drop_all, length_push}
 use Rattle.cx_tokens.specs.declared.token.Token.{Token}
 use Rattle.cx_macro.specs.declared.expansion.Call.{Call}
 use Rattle.cx_macro.specs.declared.fault.MacroFault.{MacroFault}
 use Rattle.cx_macro.specs.declared.fault.MacroFault.TheVariants.{ArgumentCount, BadPaste, TooManyTokens, UnclosedCall}
 use Rattle.cx_macro.specs.Arguments.{Bracketed, arguments_of}
-use Rattle.cx_macro.specs.Expansion.{ArgumentsOutcome, Expands, ExpandsEach, Outcome, Replaces, Replacement, all_expanded, argument_count, argument_fault, behind_argument, behind_token, called, ends, expanded, function_like, no_more, no_replacement, not_expanded, not_wanted, object_like, one_refused, refused, replaced, replacement, replacement_of, stays, stops, token_goes, token_stays, too_many, unclosed, unclosed_call, use_of, wanted, wanted_from}
+use Rattle.cx_macro.specs.Expansion.{ArgumentsOutcome, Expands, ExpandsEach, Outcome, Replaces, all_expanded, argument_count, argument_fault, behind_argument, behind_token, called, ends, expanded, function_like, no_more, not_expanded, not_wanted, object_like, one_refused, refused, replaced, replacement, replacement_of, stays, stops, token_goes, token_stays, too_many, unclosed, unclosed_call, use_of, wanted, wanted_from}
 use Rattle.cx_macro.specs.Hiding.{common, with_name}
 use Rattle.cx_macro.specs.Macros.{Definition, Table}
 use Rattle.cx_macro.specs.Replacement.{Glues, is_expanded, other, parts_of, replacing}

@@ -1,8 +1,8 @@
 -- What becomes of a token, test by test.
-use Rattle.std.proofs.Common.{◌≡◌, ℕ, List, [], ◌∷◌, Bool, true, false, cond, Option, Some, None, refl, sym, ◌∙◌, ap, subst}
+use Rattle.std.proofs.Common.{◌≡◌, ℕ, List, [], ◌∷◌, true, false, cond, Option, Some, None, ◌∙◌, ap, subst}
 use Rattle.cx_tokens.specs.declared.token.Token.{Token}
 use Rattle.cx_macro.specs.Arguments.{Bracketed, bracketed, is_open}
-use Rattle.cx_macro.specs.Expansion.{Use, call_of, called, definition_at, replaced, stays, unclosed, use_by, use_of, use_with}
+use Rattle.cx_macro.specs.Expansion.{call_of, called, definition_at, replaced, stays, unclosed, use_by, use_of, use_with}
 use Rattle.cx_macro.specs.Macros.{Definition, Table}
 use Rattle.cx_macro.specs.Uses.{begins_call}
 

@@ -1,5 +1,5 @@
 -- Calls, token by token.
-use Rattle.std.specs.Prelude.{ℕ, ◌+◌, ◌-◌, List, ◌∷◌, ◌++◌, cond, Option, Some, None}
+use Rattle.std.specs.Prelude.{ℕ, ◌+◌, ◌-◌, List, ◌++◌, cond, Option, Some, None}
 use Rattle.cx_tokens.specs.declared.token.Token.{Token}
 use Rattle.cx_macro.specs.Arguments.{Bracketed, Cut, Named, is_close, is_open}
 

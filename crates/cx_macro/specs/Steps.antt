@@ -1,10 +1,9 @@
 -- Macro replacement step by step: a list that is being expanded, and the calls whose arguments are expanded first.
-use Rattle.std.specs.Prelude.{◌≡◌, ℕ, ◌+◌, ◌-◌, ◌*◌, ◌<◌, ◌≤◌, List, [], ◌∷◌, ◌++◌, Bool, cond, Option, None, Some, ◌≢◌, get_or, drop, length}
+use Rattle.std.specs.Prelude.{◌≡◌, ℕ, ◌+◌, ◌-◌, ◌*◌, ◌<◌, ◌≤◌, List, [], ◌∷◌, cond, None, Some, ◌≢◌, get_or, drop, length}
 use Rattle.cx_tokens.specs.declared.token.Token.{Token}
 use Rattle.cx_macro.specs.declared.fault.MacroFault.{MacroFault}
 use Rattle.cx_macro.specs.declared.fault.MacroFault.TheVariants.{NoMemory}
 use Rattle.cx_macro.specs.declared.expansion.Call.{Call}
-use Rattle.cx_macro.specs.declared.expansion.Level.{Level}
 use Rattle.cx_macro.specs.declared.expansion.State.{State}
 use Rattle.cx_macro.specs.declared.expansion.Step.{Step}
 use Rattle.cx_macro.specs.declared.expansion.Step.TheVariants.{Ends, Goes}

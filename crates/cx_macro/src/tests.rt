@@ -165,33 +165,38 @@ fn is(piece: &Piece, text: &[u8]) -> bool {
     piece.token.text.as_slice() == text
 }
 
+/// Whether an opening bracket stands directly behind a macro's name.
+fn begins_parameters(rest: &[Piece]) -> bool {
+    match rest.first() {
+        Some(open) => is(open, b"(") && !open.token.space,
+        None => false,
+    }
+}
+
 /// Defines what a line says.
 fn define(alloc: Global, macros: &mut Macros, line: &str) -> Result<(), NoMemory> {
     let pieces = pieces(alloc, line)?;
     let Some((name, rest)) = pieces.as_slice().split_first() else {
         return Ok(());
     };
-    let mut parameters = None;
+    let mut in_brackets = begins_parameters(rest);
+    let function_like = in_brackets;
+    let mut names = List::new(alloc);
     let mut variadic = false;
-    let mut body = rest;
-    if let Some((open, behind)) = rest.split_first() {
-        if is(open, b"(") && !open.token.space {
-            let mut names = List::new(alloc);
-            body = behind;
-            while let Some((piece, behind)) = body.split_first() {
-                body = behind;
-                if is(piece, b")") {
-                    break;
-                }
-                if piece.token.kind == Kind::Name {
-                    names.push(piece.token.text.copy()?)?;
-                }
-                variadic = variadic || is(piece, b"...");
-            }
-            parameters = Some(names);
+    let mut body = List::new(alloc);
+    for piece in rest {
+        if !in_brackets {
+            body.push(piece.token.copy()?)?;
+        } else if is(piece, b")") {
+            in_brackets = false;
+        } else if is(piece, b"...") {
+            variadic = true;
+        } else if piece.token.kind == Kind::Name {
+            names.push(piece.token.text.copy()?)?;
         }
     }
-    let body = list_of(alloc, body)?;
+    let body = crate::lists::list_of(alloc, body.as_slice())?;
+    let parameters = if function_like { Some(names) } else { None };
     let made = Macro {
         parameters,
         variadic,

@@ -1,4 +1,3 @@
-use Rattle.std.proofs.Common.{sym}
 use Rattle.cx_macro.proofs.CallLaws.{bracketed_closes, bracketed_more, bracketed_open}
 use Rattle.cx_macro.proofs.arguments.bracketed.Goals as goal
 

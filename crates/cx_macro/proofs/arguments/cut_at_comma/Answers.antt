@@ -1,4 +1,3 @@
-use Rattle.std.proofs.Common.{sym}
 use Rattle.cx_macro.proofs.CallLaws.{cut_more, cut_none, cut_parts}
 use Rattle.cx_macro.proofs.arguments.cut_at_comma.Goals as goal
 

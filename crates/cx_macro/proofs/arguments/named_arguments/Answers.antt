@@ -1,4 +1,4 @@
-use Rattle.std.proofs.Common.{◌≡◌, ◌-◌, suc, sym, arith}
+use Rattle.std.proofs.Common.{◌≡◌, ◌-◌, suc, arith}
 use Rattle.cx_macro.proofs.CallLaws.{named_done, named_few, named_more}
 use Rattle.cx_macro.proofs.arguments.named_arguments.Goals as goal
 

@@ -1,4 +1,4 @@
-use Rattle.std.proofs.Common.{◌≡◌, ◌+◌, ◌∙◌, length, refl, subst, Some, None}
+use Rattle.std.proofs.Common.{◌≡◌, ◌+◌, length, refl, subst}
 use Rattle.std.proofs.lemmas.Result.{err_from_is_err_and}
 use Rattle.cx_macro.proofs.ProgressLaws.{finish_bad_paste, finish_too_many, finishes, glued_along, too_many_along}
 use Rattle.cx_macro.proofs.calls.finish.Goals as goal

@@ -1,4 +1,4 @@
-use Rattle.std.proofs.Common.{◌≡◌, ap, refl}
+use Rattle.std.proofs.Common.{ap}
 use Rattle.std.proofs.lemmas.Result.{IfErr-weaker, IfOk-weaker}
 use Rattle.cx_macro.proofs.ProgressLaws.{resume_fails, resumes}
 use Rattle.cx_macro.proofs.calls.resume.Goals as goal

@@ -1,4 +1,4 @@
-use Rattle.std.proofs.Common.{◌≡◌, ◌++◌, ◌∷◌, ◌<◌, ◌∙◌, [], ap, arith, length, refl, sym, take}
+use Rattle.std.proofs.Common.{◌++◌, ◌∷◌, ◌<◌, ◌∙◌, [], ap, arith, length, refl, sym, take}
 use Rattle.std.proofs.lemmas.List.{take_more}
 use Rattle.cx_macro.proofs.ListLaws.{made_live, made_more}
 use Rattle.cx_macro.proofs.lists.list_of.Goals as goal

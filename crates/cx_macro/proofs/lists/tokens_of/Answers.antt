@@ -1,6 +1,6 @@
 use Rattle.std.proofs.Common.{◌≡◌, IfSome, subst, sym}
 use Rattle.cx_tokens.specs.Nodes.{node_of}
-use Rattle.cx_macro.proofs.ListLaws.{walk_ends, walk_less, walk_next}
+use Rattle.cx_macro.proofs.ListLaws.{walk_next}
 use Rattle.cx_macro.proofs.lists.tokens_of.Goals as goal
 
 pub loop-at-preserved : goal.loop-at-preserved

@@ -1,4 +1,4 @@
-use Rattle.std.proofs.Common.{◌≡◌, ◌+◌, length, arith}
+use Rattle.std.proofs.Common.{arith}
 use Rattle.std.proofs.lemmas.Grind.{common_steps}
 use Rattle.cx_macro.proofs.BoundLaws.{list_too_long}
 use Rattle.cx_macro.proofs.macros.first_laid.Goals as goal

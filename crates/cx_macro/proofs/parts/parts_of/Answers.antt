@@ -1,4 +1,3 @@
-use Rattle.std.proofs.Common.{◌≡◌, List, [], ◌++◌, sym, ◌∙◌, ap, subst}
 use Rattle.cx_macro.proofs.PartLaws.{parts_done}
 use Rattle.cx_macro.proofs.parts.parts_of.Goals as goal
 

@@ -1,4 +1,4 @@
-use Rattle.std.proofs.Common.{◌≡◌, sym, ◌∙◌, ◌++◌, ◌∷◌, []}
+use Rattle.std.proofs.Common.{sym, ◌∙◌}
 use Rattle.cx_macro.proofs.PastingLaws.{left_is_empty, right_is_empty, sides_fail, sides_join}
 use Rattle.cx_macro.proofs.pasting.join_sides.Goals as goal
 

@@ -1,6 +1,6 @@
-use Rattle.std.proofs.Common.{◌≡◌, ◌∙◌, refl, sym, Some, None}
+use Rattle.std.proofs.Common.{◌∙◌, refl, sym}
 use Rattle.std.proofs.lemmas.Result.{IfErr-weaker, IfOk-weaker}
-use Rattle.cx_macro.proofs.ProgressLaws.{Begun, call_fails, call_miscounted, call_unclosed, hides, takes_call}
+use Rattle.cx_macro.proofs.ProgressLaws.{call_fails, call_miscounted, call_unclosed, hides, takes_call}
 use Rattle.cx_macro.proofs.steps.call.Goals as goal
 
 pub returns-in_default-clause-fault : goal.returns-in_default-clause-fault

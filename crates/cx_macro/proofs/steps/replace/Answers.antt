@@ -1,4 +1,4 @@
-use Rattle.std.proofs.Common.{◌≡◌, ◌+◌, ◌∙◌, length, refl, subst, Some, None}
+use Rattle.std.proofs.Common.{◌≡◌, ◌+◌, length, refl, subst}
 use Rattle.std.proofs.lemmas.Result.{err_from_is_err_and}
 use Rattle.cx_macro.proofs.ProgressLaws.{object_fails, object_too_long, takes_object, too_many_along}
 use Rattle.cx_macro.proofs.steps.replace.Goals as goal

@@ -1,4 +1,4 @@
-use Rattle.std.proofs.Common.{◌≡◌, ◌∙◌}
+use Rattle.std.proofs.Common.{◌∙◌}
 use Rattle.std.proofs.lemmas.Result.{err_from_is_err_and}
 use Rattle.cx_tokens.specs.Nodes.{tokens}
 use Rattle.cx_macro.proofs.AnswerLaws.{list_within, made_list}

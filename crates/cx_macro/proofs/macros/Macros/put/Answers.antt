@@ -1,4 +1,4 @@
-use Rattle.std.proofs.Common.{◌≡◌, ◌∙◌, ℕ, Bool, List, Option, ap}
+use Rattle.std.proofs.Common.{◌∙◌, ℕ, Bool, List, Option, ap}
 use Rattle.cx_tokens.specs.declared.token.Token.{Token}
 use Rattle.cx_macro.specs.Macros.{Definition}
 use Rattle.cx_macro.proofs.TableLaws.{put}
