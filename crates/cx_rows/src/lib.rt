@@ -6,6 +6,4 @@ mod cases;
 #[cfg(test)]
 mod first_texts;
 #[cfg(test)]
-mod outside;
-#[cfg(test)]
 mod tests;

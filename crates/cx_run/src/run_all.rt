@@ -112,9 +112,9 @@ fn run_with<F: Files, O: Sink, E: Sink>(
 /// Checks what the words of the command line ask for: asks the files, and writes the report of the
 /// words and of what was seen to the two sinks.
 ///
-/// * **asked**, **answers**: `seen` is a whole asking of the words, and each answer is what the
-///   files hold, where they tell that. The list of failed calls grows by exactly the paths that
-///   could not be read. A file of 4,194,305 bytes or more is too large.
+/// * **asked**, **answers**: unless memory ran out, `seen` is a whole asking of the words, and each
+///   answer is what the files hold, where they tell that. The list of failed calls grows by exactly
+///   the paths that could not be read. A file of 4,194,305 bytes or more is too large.
 /// * **written**: cause and pieces are those of the report of the words and of `seen`, and each
 ///   sink holds its old bytes and then its pieces. After a `WriteFault` or `NoMemory` a front of the
 ///   pieces stands.

@@ -1,0 +1,5 @@
+//! Worked cases of paths, folders and copies, as tables.
+#![tactic(auto)]
+
+#[cfg(test)]
+mod tests;
