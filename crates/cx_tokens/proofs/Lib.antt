@@ -1,0 +1,13 @@
+pub mod BalanceLaws
+pub mod BracketLaws
+pub mod KeptLaws
+pub mod MateLaws
+pub mod NodeLaws
+pub mod OpenLaws
+pub mod PairLaws
+pub mod PartLaws
+pub mod PlaceLaws
+pub mod SimplifyLaws
+pub mod StepLaws
+pub mod SweepLaws
+pub mod SweptPairs

@@ -1,0 +1,82 @@
+-- Paired brackets are partners of each other.
+use Rattle.std.proofs.Common.{◌≡◌, ℕ, arith, List, [], ◌∷◌, ◌++◌, Some, sym, ap, ◌∙◌, subst, append_assoc, append-nil, map, length, ◌==◌}
+use Rattle.std.specs.List.{AllByRecursion, IsDistinct, list_any}
+use Rattle.std.proofs.lemmas.List.{length-map}
+use Rattle.cx_tokens.specs.Nodes.{IsTokenList, TokenNode, before, behind, is_live, partner_in, partner_of}
+use Rattle.cx_tokens.specs.Brackets.{IsPaired, nothing, other, pair}
+use Rattle.cx_tokens.specs.Edits.{IsKept}
+use Rattle.cx_tokens.specs.Pairing.{named}
+use Rattle.cx_tokens.proofs.NodeLaws.{IsNumbered, found, partner_live}
+use Rattle.cx_tokens.proofs.PartLaws.{gone_live, node_at}
+use Rattle.cx_tokens.proofs.BalanceLaws.{named_parts}
+
+-- the partner of a node is in the list, with the node as its partner
+record HasMate (all : List TokenNode) (x : TokenNode) (m : ℕ) : Type 0 where
+  front : List TokenNode
+  mate : TokenNode
+  back : List TokenNode
+  whole : all ≡ front ++ mate ∷ back
+  number : mate.number ≡ m
+  mutual_one : mate.partner ≡ Some x.number
+
+AreMated : List TokenNode → List TokenNode → Type 0
+AreMated all xs = AllByRecursion (λ x. (m : ℕ) → x.partner ≡ Some m → HasMate all x m) xs
+
+mated_append : (all a b : List TokenNode) → AreMated all a → AreMated all b → AreMated all (a ++ b)
+unfolding AreMated
+mated_append all [] b h k = k
+mated_append all (x ∷ a) b h k = (h.0, mated_append all a b h.1 k)
+
+mated_at : (all f g : List TokenNode) (x : TokenNode) → AreMated all (f ++ x ∷ g) → (m : ℕ) → x.partner ≡ Some m → HasMate all x m
+unfolding AreMated
+mated_at all [] g x h = h.0
+mated_at all (y ∷ f) g x h = mated_at all f g x h.1
+
+paired_mated : {xs : List TokenNode} → IsPaired xs → (all f g : List TokenNode) → all ≡ f ++ (xs ++ g) → AreMated all xs
+unfolding AreMated
+paired_mated nothing all f g e = tt
+paired_mated (other {x = x} {rest = rest} o c p h) all f g e =
+    (λ m q. absurd (cc), paired_mated h all (f ++ x ∷ []) g (e ∙ sym (append_assoc f (x ∷ []) (rest ++ g))))
+paired_mated (pair a b inner rest w t p q h k) all f g e =
+    let u : all ≡ f ++ a ∷ (inner ++ b ∷ (rest ++ g)) = e ∙ ap (λ s. f ++ (s ++ g)) w ∙ ap (λ s. f ++ a ∷ s) (append_assoc inner (b ∷ rest) g) in
+    let v : all ≡ (f ++ a ∷ inner) ++ b ∷ (rest ++ g) = u ∙ sym (append_assoc f (a ∷ inner) (b ∷ (rest ++ g))) in
+    let i = paired_mated h all (f ++ a ∷ []) (b ∷ (rest ++ g)) (u ∙ sym (append_assoc f (a ∷ []) (inner ++ b ∷ (rest ++ g)))) in
+    let j = paired_mated k all ((f ++ a ∷ inner) ++ b ∷ []) g (v ∙ sym (append_assoc (f ++ a ∷ inner) (b ∷ []) (rest ++ g))) in
+    let whole : AreMated all (a ∷ (inner ++ b ∷ rest)) = (
+      λ m r. record { front = f ++ a ∷ inner; mate = b; back = rest ++ g; whole = v; number = same_some (sym p ∙ r); mutual_one = q },
+      mated_append all inner (b ∷ rest) i (
+        λ m r. record { front = f; mate = a; back = inner ++ b ∷ (rest ++ g); whole = u; number = same_some (sym q ∙ r); mutual_one = p },
+        j,
+      ),
+    ) in
+    subst (AreMated all) (sym w) whole
+  where
+    same_some : {n m : ℕ} → Some n ≡ Some m → n ≡ m
+    same_some r = cc
+
+mate_partner : (all : List TokenNode) (x : TokenNode) (m : ℕ) → IsNumbered all → HasMate all x m → partner_of m all ≡ Some x.number
+mate_partner all x m d k =
+    let a = ap partner_in (node_at k.front k.mate k.back (subst IsNumbered k.whole d)) ∙ k.mutual_one in
+    subst (λ t. partner_of m t ≡ Some x.number) (sym k.whole) (subst (λ n. partner_of n (k.front ++ k.mate ∷ k.back) ≡ Some x.number) k.number a)
+
+mated_mutual : (all : List TokenNode) → IsNumbered all → AreMated all all → (n m : ℕ) → partner_of n all ≡ Some m → partner_of m all ≡ Some n
+mated_mutual all d h n m e =
+    let f = found n all (partner_live n m all e) in
+    let p : f.node.partner ≡ Some m = sym (ap partner_in f.is_node) ∙ e in
+    mate_partner all f.node m d (mated_at all (before n all) (behind n all) f.node (subst (AreMated all) f.whole h) m p) ∙ ap Some f.number
+
+pub paired_list : (all : List TokenNode) → IsPaired all → IsNumbered all → IsTokenList all
+paired_list all h d = record { distinct = d; mutual_partners = mated_mutual all d (paired_mated h all [] [] (sym (append-nil all))) }
+
+pub live_named : (xs ys : List TokenNode) (n : ℕ) → map (λ x. x.number) xs ≡ map (λ x. x.number) ys → is_live n xs ≡ is_live n ys
+live_named xs ys n e = sym (gone_live xs n) ∙ ap (list_any (λ g. g == n)) e ∙ gone_live ys n
+
+pub kept_paired : (old new : List TokenNode) (next room more : ℕ) (opened left : List ℕ) → IsKept old next room opened → IsPaired new → map named new ≡ map named old → more ≡ room → left ≡ [] → IsKept new next more left
+kept_paired old new next room more opened left k p e r none =
+    let numbers = (named_parts new old e).0 in
+    record {
+      is_list = paired_list new p (subst (IsDistinct (λ a b. a == b)) (sym numbers) k.is_list.distinct);
+      below = λ n l. k.below n (sym (live_named new old n numbers) ∙ l);
+      enough = let a = ap length e in let b = length-map new named in let c = length-map old named in let d = k.enough in omega arith;
+      none_open = none;
+    }

@@ -1,0 +1,5 @@
+use Rattle.cx_tokens.proofs.SimplifyLaws.{simplified_once}
+use Rattle.cx_tokens.proofs.laws.simplified_once.Goals as goal
+
+pub returns : goal.returns
+returns c = simplified_once
