@@ -6,7 +6,7 @@ use Rattle.cx_lex.specs.declared.comment.Comment.{Comment}
 use Rattle.cx_lex.specs.declared.piece.Piece.{Piece}
 use Rattle.cx_lex.specs.declared.before.Before.{Before}
 use Rattle.cx_lex.specs.declared.character.Character.{Character}
-use Rattle.cx_lex.specs.Elements.{Element, IsElement, at_start, behind_element, comment, piece, piece_text, spelling}
+use Rattle.cx_lex.specs.Elements.{Element, IsElement, IsPiece, at_start, behind_element, comment, piece, piece_text, spelling}
 use Rattle.cx_lex.specs.Lines.{bytes_of, file_characters}
 use Rattle.cx_lex.specs.Pieces.{StandsNowhere}
 
@@ -65,3 +65,8 @@ pub data Lexes (file limit : ℕ) (text : List ℕ) : Outcome → Type 0 where
   piece_more : (es : List Element) (kind : Kind) (cs rest : List Character)
       → file_characters file text ≡ spelled (es ++ piece kind cs ∷ []) ++ rest → AreElements at_start (es ++ piece kind cs ∷ []) rest
       → length (pieces_of at_start es) ≡ limit → Lexes file limit text (too_long (place_of cs))
+
+-- bytes are one piece, of this kind and text, and nothing else
+abbrev pub IsOnePiece : List ℕ → Kind → List ℕ → Type 0
+IsOnePiece bytes kind text =
+    IsPiece at_start kind (file_characters 0 bytes) [] × (text ≡ piece_text kind (bytes_of (file_characters 0 bytes)))

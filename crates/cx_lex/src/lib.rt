@@ -9,6 +9,7 @@ pub use lexer::{
 };
 pub use number::number_value;
 pub use piece::Piece;
+pub use single::{one_kind, one_piece};
 pub use spot::Spot;
 
 mod before;
@@ -25,4 +26,5 @@ mod number;
 mod piece;
 mod punctuator;
 mod scan;
+mod single;
 mod spot;
