@@ -1,5 +1,5 @@
 //! The bytes of a name or of a piece of a source.
-ghost use Rattle.std.specs.Prelude.{◌≡◌, [], ◌++◌, decimal, length, IfOk, OnOk, OnErr};
+ghost use Rattle.std.specs.Prelude.{◌≡◌, [], ◌∷◌, ◌++◌, decimal, length, take, IfOk, OnOk, OnErr};
 
 use crate::errors::NoMemory;
 use crate::list::Duplicate;
@@ -56,6 +56,22 @@ impl Text {
         ensures { result ≡ length self.now }
     {
         self.bytes.len()
+    }
+
+    /// Adds a byte at the end; a refused call changes nothing.
+    pub fn push(&mut self, byte: u8) -> Result<(), NoMemory>
+        ensures ok { OnOk result (self.new ≡ self.old ++ byte ∷ []) }
+        ensures err { OnErr result (self.new ≡ self.old) }
+    {
+        self.bytes.push(byte)?;
+        Ok(())
+    }
+
+    /// Keeps so many bytes at most, those in front.
+    pub fn truncate(&mut self, length: usize)
+        ensures { self.new ≡ take length self.old }
+    {
+        self.bytes.truncate(length);
     }
 
     /// Adds the bytes at the end; a refused call changes nothing.

@@ -5,7 +5,11 @@ use Rattle.cx_tokens.specs.declared.token.Kind.{Kind}
 use Rattle.cx_tokens.specs.declared.token.Kind.TheVariants.{Name, Char, String, Unclosed, Header, Punct, Other}
 use Rattle.cx_lex.specs.Characters.{is_digit, is_nondigit, is_one_of}
 use Rattle.cx_lex.specs.Forms.{IsLongest, IsToken, punctuators}
-use Rattle.cx_lex.specs.Lines.{Character, bytes_of}
+use Rattle.cx_lex.specs.declared.before.Before.{Before}
+use Rattle.cx_lex.specs.declared.before.Directive.{Directive}
+use Rattle.cx_lex.specs.declared.before.Directive.TheVariants.{Nothing, Hash, Include}
+use Rattle.cx_lex.specs.declared.character.Character.{Character}
+use Rattle.cx_lex.specs.Lines.{bytes_of}
 use Rattle.cx_lex.specs.Pieces.{BeginsWith, StandsNowhere}
 
 -- An element of a source. A comment has its mark, its text, and its end, where it has one.
@@ -19,22 +23,8 @@ spelling (separator c) = c ∷ []
 spelling (comment mark text end) = mark ++ (text ++ end)
 spelling (piece kind cs) = cs
 
--- How far an include line has been read: nothing of it, its `#`, its `#` and `include`.
-pub data Directive : Type 0 where
-  none : Directive
-  hash : Directive
-  include : Directive
-
--- What stands before an element.
-pub record Before : Type 0 where
-  -- a separator or a comment stands directly before it
-  pub space : Bool
-  -- no piece stands before it on its line
-  pub first_on_line : Bool
-  pub directive : Directive
-
 abbrev pub at_start : Before
-at_start = record { space = false; first_on_line = true; directive = none }
+at_start = record { space = false; first_on_line = true; directive = Nothing }
 
 -- the digraphs, each with the punctuator that it stands for (C11 6.4.6, paragraph 3)
 abbrev pub digraphs : List (List ℕ × List ℕ)
@@ -53,16 +43,16 @@ piece_text _ text = text
 
 -- how far an include line has been read behind a piece
 unfoldable pub directive_behind : Directive → Kind → List ℕ → Directive
-directive_behind before Punct text = cond (bytes_eq text (codes "#")) hash none
-directive_behind hash Name text = cond (bytes_eq text (codes "include")) include none
-directive_behind before kind text = none
+directive_behind before Punct text = cond (bytes_eq text (codes "#")) Hash Nothing
+directive_behind Hash Name text = cond (bytes_eq text (codes "include")) Include Nothing
+directive_behind before kind text = Nothing
 
 -- what stands before the next element
 unfoldable pub behind_element : Before → Element → Before
 behind_element before (separator c) = record {
   space = true;
   first_on_line = before.first_on_line || c.in_newline;
-  directive = cond c.in_newline none before.directive;
+  directive = cond c.in_newline Nothing before.directive;
 }
 behind_element before (comment mark text end) = record { space = true; first_on_line = before.first_on_line; directive = before.directive }
 behind_element before (piece kind cs) =
@@ -114,7 +104,7 @@ IsHeaderName text =
 
 -- a header name is to stand in front, and does
 abbrev pub HasHeader : Directive → List Character → Type 0
-HasHeader include cs =
+HasHeader Include cs =
     (name rest : List Character) × (cs ≡ name ++ rest) × (on_one_line name ≡ true) × IsHeaderName (bytes_of name)
 HasHeader _ cs = ⊥
 
@@ -140,7 +130,7 @@ pub record IsPiece (before : Before) (kind : Kind) (cs rest : List Character) : 
   pub form : HasForm kind cs rest
   pub no_line_comment : ¬ BeginsWith (codes "//") (bytes_of (cs ++ rest))
   pub no_block_comment : ¬ BeginsWith (codes "/*") (bytes_of (cs ++ rest))
-  pub header : kind ≡ Header → before.directive ≡ include
+  pub header : kind ≡ Header → before.directive ≡ Include
   pub no_header : kind ≢ Header → ¬ HasHeader before.directive (cs ++ rest)
 
 -- an element in front of a text

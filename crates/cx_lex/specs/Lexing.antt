@@ -4,8 +4,10 @@ use Rattle.cx_base.specs.declared.place.Place.{Place}
 use Rattle.cx_tokens.specs.declared.token.Kind.{Kind}
 use Rattle.cx_lex.specs.declared.comment.Comment.{Comment}
 use Rattle.cx_lex.specs.declared.piece.Piece.{Piece}
-use Rattle.cx_lex.specs.Elements.{Before, Element, IsElement, at_start, behind_element, comment, piece, piece_text, spelling}
-use Rattle.cx_lex.specs.Lines.{Character, bytes_of, file_characters}
+use Rattle.cx_lex.specs.declared.before.Before.{Before}
+use Rattle.cx_lex.specs.declared.character.Character.{Character}
+use Rattle.cx_lex.specs.Elements.{Element, IsElement, at_start, behind_element, comment, piece, piece_text, spelling}
+use Rattle.cx_lex.specs.Lines.{bytes_of, file_characters}
 use Rattle.cx_lex.specs.Pieces.{StandsNowhere}
 
 abbrev pub spelled : List Element → List Character

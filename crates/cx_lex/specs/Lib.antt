@@ -1,7 +1,12 @@
+pub mod Answers
+pub mod Behind
 pub mod Characters
 pub mod Cut
 pub mod Elements
 pub mod Forms
+pub mod Fronts
 pub mod Lexing
 pub mod Lines
 pub mod Pieces
+pub mod Scanning
+pub mod Walking

@@ -1,12 +1,7 @@
 -- The characters of a source, without its deleted newlines (C11 5.1.1.2, phases 1 and 2).
 use Rattle.std.specs.Prelude.{ℕ, zero, suc, ◌+◌, List, [], ◌∷◌, Bool, false, cond, ◌&&◌, ◌==◌, nat_lt, map}
 use Rattle.cx_base.specs.declared.place.Place.{Place}
-
--- A character: its code, whether it belongs to a newline, and where it stands in the file as stored.
-pub record Character : Type 0 where
-  pub code : ℕ
-  pub in_newline : Bool
-  pub place : Place
+use Rattle.cx_lex.specs.declared.character.Character.{Character}
 
 abbrev pub file_start : ℕ → Place
 file_start file = record { file = file; line = 1; column = 1 }

@@ -1,7 +1,8 @@
 //! Classes of bytes.
 ghost use Rattle.std.specs.Prelude.{◌≡◌, [], ◌∷◌, MatchOption};
-ghost use Rattle.cx_lex.specs.Characters.{is_word, is_blank, is_mark, is_newline};
+ghost use Rattle.cx_lex.specs.Characters.{is_word, is_blank, is_digit, is_mark, is_newline, is_nondigit};
 ghost use Rattle.cx_lex.specs.Cut.{is_pair};
+ghost use Rattle.cx_lex.specs.Forms.{goes_on};
 
 /// A letter, a digit or `_`.
 #[tactic(auto, unfolding(crate::specs::Characters::is_word, crate::specs::Characters::is_nondigit, crate::specs::Characters::is_digit))]
@@ -9,6 +10,36 @@ pub fn is_word(byte: u8) -> bool
     ensures { result ≡ is_word byte }
 {
     byte.is_ascii_alphanumeric() || byte == b'_'
+}
+
+/// A letter or `_`.
+#[tactic(auto, unfolding(crate::specs::Characters::is_nondigit))]
+pub fn is_nondigit(byte: u8) -> bool
+    ensures { result ≡ is_nondigit byte }
+{
+    byte.is_ascii_alphabetic() || byte == b'_'
+}
+
+/// A digit.
+#[tactic(auto, unfolding(crate::specs::Characters::is_digit))]
+pub fn is_digit(byte: u8) -> bool
+    ensures { result ≡ is_digit byte }
+{
+    byte.is_ascii_digit()
+}
+
+/// Whether a number goes on with a byte behind its byte `last` (C11 6.4.8).
+#[tactic(auto, unfolding(crate::specs::Forms::goes_on))]
+pub fn goes_on(last: u8, byte: u8) -> bool
+    ensures { result ≡ goes_on last byte }
+{
+    if is_word(byte) || byte == b'.' {
+        return true;
+    }
+    if !matches!(last, b'e' | b'E' | b'p' | b'P') {
+        return false;
+    }
+    matches!(byte, b'+' | b'-')
 }
 
 /// A byte that ends a line.

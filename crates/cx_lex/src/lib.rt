@@ -4,13 +4,25 @@
 
 pub use comment::Comment;
 pub use first_lexer::{lex_first, one_reading, pieces_are_the_text};
+pub use lexer::{
+    LexFault, Lexed, elements_are_the_text, lex, lex_within, one_outcome, some_outcome,
+};
 pub use number::number_value;
 pub use piece::Piece;
 pub use spot::Spot;
 
+mod before;
 mod bytes;
+mod character;
 mod comment;
+mod cursor;
 mod first_lexer;
+mod front;
+mod lexer;
+#[cfg(test)]
+mod lexer_tests;
 mod number;
 mod piece;
+mod punctuator;
+mod scan;
 mod spot;

@@ -64,4 +64,3 @@ impl Duplicate for Token {
         self.copy()
     }
 }
-
