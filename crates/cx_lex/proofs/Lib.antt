@@ -13,7 +13,7 @@ pub mod GoesLaws
 pub mod Going
 pub mod Joined
 pub mod LongestLaws
-pub mod OnePieceLaws
+pub mod OnePiece
 pub mod Onward
 pub mod Outcomes
 pub mod Plain

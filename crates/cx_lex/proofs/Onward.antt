@@ -84,7 +84,7 @@ pub record PieceFound (f : Found) (place : Place) (kind : Kind) (bytes : List �
   pub place_is : place ≡ place_of cs
   pub bytes_are : bytes ≡ piece_text kind (bytes_of cs)
 
-piece_found : (f : Found) (place : Place) (kind : Kind) (bytes : List ℕ) → OfPiece place kind bytes ≡ front_of f → PieceFound f place kind bytes
+pub piece_found : (f : Found) (place : Place) (kind : Kind) (bytes : List ℕ) → OfPiece place kind bytes ≡ front_of f → PieceFound f place kind bytes
 unfolding front_of rest_of
 piece_found nothing place kind bytes e = absurd cc
 piece_found (open_comment at rest) place kind bytes e = absurd cc

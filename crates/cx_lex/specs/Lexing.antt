@@ -66,7 +66,7 @@ pub data Lexes (file limit : ℕ) (text : List ℕ) : Outcome → Type 0 where
       → file_characters file text ≡ spelled (es ++ piece kind cs ∷ []) ++ rest → AreElements at_start (es ++ piece kind cs ∷ []) rest
       → length (pieces_of at_start es) ≡ limit → Lexes file limit text (too_long (place_of cs))
 
--- the bytes are one piece, of this kind and text
+-- bytes are one piece, of this kind and text, and nothing else
 abbrev pub IsOnePiece : List ℕ → Kind → List ℕ → Type 0
 IsOnePiece bytes kind text =
     IsPiece at_start kind (file_characters 0 bytes) [] × (text ≡ piece_text kind (bytes_of (file_characters 0 bytes)))

@@ -43,17 +43,13 @@ impl Before {
     pub fn behind_separator(self, newline: bool) -> Before
         ensures { result ≡ behind_separator self newline }
     {
-        if newline {
-            return Before {
-                space: true,
-                first_on_line: true,
-                directive: Directive::Nothing,
-            };
+        if !newline {
+            return self.behind_comment();
         }
         Before {
             space: true,
-            first_on_line: self.first_on_line,
-            directive: self.directive,
+            first_on_line: true,
+            directive: Directive::Nothing,
         }
     }
 
@@ -61,11 +57,9 @@ impl Before {
     pub fn behind_comment(self) -> Before
         ensures { result ≡ behind_comment self }
     {
-        Before {
-            space: true,
-            first_on_line: self.first_on_line,
-            directive: self.directive,
-        }
+        let mut behind = self;
+        behind.space = true;
+        behind
     }
 
     /// What stands behind a piece of this kind and text.

@@ -2,6 +2,8 @@
 use crate::comment::Comment;
 use crate::lexer::{LexFault, Lexed, lex, lex_within};
 use crate::piece::Piece;
+use crate::single::one_piece;
+use cx_tokens::Kind;
 use std::alloc::{AllocError, Global};
 use std::str;
 
@@ -159,6 +161,17 @@ const LINES: [(&str, &str); 23] = [
     ),
 ];
 
+// Bytes that are one piece, with its kind and its text.
+const ONE: [(&[u8], Kind, &[u8]); 4] = [
+    (b"+=", Kind::Punct, b"+="),
+    (b"%:", Kind::Punct, b"#"),
+    (b"1e+", Kind::Number, b"1e+"),
+    (b"\"a", Kind::Unclosed, b"\"a"),
+];
+
+// Bytes that are none, or more than one.
+const NONE: [&[u8]; 4] = [b"", b"//", b"a ", b"<a>"];
+
 #[test]
 fn pieces_are_found(rt: HostRuntime) {
     for (text, expected) in PIECES {
@@ -205,5 +218,19 @@ fn a_piece_past_the_limit_is_a_fault(rt: HostRuntime) {
         let answer = lex_within(rt.alloc(), b"a b\nc/***/", 0, limit);
         let shown = shown(rt.alloc(), &answer).expect(&rt, "memory");
         assert_eq!(rt; shown.as_str(), expected);
+    }
+}
+
+#[test]
+fn bytes_are_one_piece_or_none(rt: HostRuntime) {
+    for (bytes, kind, text) in ONE {
+        let found = one_piece(rt.alloc(), bytes).expect(&rt, "memory");
+        let (found, spelling) = found.expect(&rt, "a piece");
+        assert_eq!(rt; found, kind);
+        assert_eq!(rt; spelling.as_slice(), text);
+    }
+    for bytes in NONE {
+        let found = one_piece(rt.alloc(), bytes).expect(&rt, "memory");
+        assert!(rt; found.is_none());
     }
 }

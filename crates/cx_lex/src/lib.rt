@@ -9,7 +9,7 @@ pub use lexer::{
 };
 pub use number::number_value;
 pub use piece::Piece;
-pub use single::{at_most_one_piece, one_piece};
+pub use single::{one_kind, one_piece};
 pub use spot::Spot;
 
 mod before;

@@ -1,6 +1,6 @@
 //! Bytes that are one preprocessing token.
 ghost use Rattle.std.specs.Prelude.{◌≡◌, ℕ, List as list, IfOk, MatchOption};
-ghost use Rattle.cx_tokens.specs.declared.token.Kind.{Kind};
+ghost use Rattle.cx_tokens.specs.declared.token.Kind.{Kind as kind_type};
 ghost use Rattle.cx_lex.specs.Lexing.{IsOnePiece};
 
 use crate::before::Directive;
@@ -10,20 +10,20 @@ use cx_base::{NoMemory, Text};
 use cx_tokens::Kind;
 use std::alloc::Global;
 
-/// How many bytes a piece has at most: no memory is given for more.
-const BYTES: usize = 4_294_967_294;
-
-/// The kind and the text of the one piece that the bytes are, where they are one (C11 6.4 and
-/// 6.10.3.3, paragraph 3).
+/// The kind and the text of the piece that the bytes are, where they are one piece and nothing else,
+/// as those that a `##` makes are to be (C11 6.10.3.3, paragraph 3). Bytes that are too many to be
+/// counted by places, 4,294,967,295 or more, are answered as want of memory.
 pub fn one_piece(alloc: Global, bytes: &[u8]) -> Result<Option<(Kind, Text)>, NoMemory>
-    ensures { IfOk result (λ found. MatchOption found ((kind : Kind) (text : list ℕ) → ¬ IsOnePiece bytes.now kind text) (λ x. IsOnePiece bytes.now x.0 x.1)) }
+    ensures { IfOk result (λ found. MatchOption found
+        ((kind : kind_type) (text : list ℕ) → ¬ IsOnePiece bytes.now kind text)
+        (λ piece. IsOnePiece bytes.now piece.0 piece.1)) }
 {
-    if bytes.len() > BYTES {
+    if bytes.len() >= u32::MAX as usize {
         return Err(NoMemory);
     }
     let mut cursor = Cursor::new(bytes, 0);
-    let Front::OfPiece(_, kind, text) = front_element(alloc, Directive::Nothing, &mut cursor)?
-    else {
+    let front = front_element(alloc, Directive::Nothing, &mut cursor)?;
+    let Front::OfPiece(_, kind, text) = front else {
         return Ok(None);
     };
     match cursor.peek() {
@@ -32,7 +32,7 @@ pub fn one_piece(alloc: Global, bytes: &[u8]) -> Result<Option<(Kind, Text)>, No
     }
 }
 
-/// Bytes are at most one piece.
-pub fn at_most_one_piece()
-    ensures { (bytes text other_text : list ℕ) (kind other_kind : Kind) → IsOnePiece bytes kind text → IsOnePiece bytes other_kind other_text → (kind ≡ other_kind) × (text ≡ other_text) }
+/// Bytes are one piece in one way at most.
+pub fn one_kind()
+    ensures { (bytes : list ℕ) (some other : kind_type) (text second : list ℕ) → IsOnePiece bytes some text → IsOnePiece bytes other second → (some ≡ other) × (text ≡ second) }
 {}

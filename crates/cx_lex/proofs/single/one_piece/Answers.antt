@@ -1,21 +1,26 @@
-use Rattle.std.proofs.Common.{◌∙◌, ap}
+use Rattle.std.proofs.Common.{◌≡◌, sym, ap, ◌∙◌, List, [], ◌∷◌}
 use Rattle.cx_lex.specs.declared.before.Directive.TheVariants.{Nothing}
+use Rattle.cx_lex.specs.declared.character.Character.{Character}
 use Rattle.cx_lex.specs.Fronts.{element_at, front_of, rest_of}
-use Rattle.cx_lex.proofs.OnePieceLaws.{is_piece, more_behind, no_piece}
+use Rattle.cx_lex.proofs.OnePiece.{found_one, one_front, one_rest}
 use Rattle.cx_lex.proofs.single.one_piece.Goals as goal
 
+no_first : (c : Character) (cs : List Character) → c ∷ cs ≡ [] → ⊥
+no_first c cs e = absurd cc
+
 pub returns-in_default : goal.returns-in_default
-returns-in_default c =
-    no_piece c.args.bytes.now c.in_ok-kind.field-0 (c.in_ok-kind.ensures.front ∙ ap (λ x. front_of (element_at Nothing x)) c.new-cursor.ensures)
-    c.in_default.not-OfPiece
+returns-in_default c kind text h =
+    let e = c.in_ok-front.ensures.front ∙ ap (λ t. front_of (element_at Nothing t)) c.new-cursor.ensures ∙ one_front c.args.bytes.now kind text h in
+    c.in_default.not-OfPiece _ _ _ e
 
 pub returns-in-Some : goal.returns-in-Some
-returns-in-Some c =
-    more_behind c.args.bytes.now c.front_element.new.cursor c.in-Some.ensures.0 c.in-Some.field-0
-    (c.in_ok-kind.ensures.rest ∙ ap (λ x. rest_of (element_at Nothing x)) c.new-cursor.ensures) c.in-Some.ensures.1
+returns-in-Some c kind text h =
+    let r = c.in_ok-front.ensures.rest ∙ ap (λ t. rest_of (element_at Nothing t)) c.new-cursor.ensures ∙ one_rest c.args.bytes.now kind text h in
+    let k = c.in-Some.ensures in
+    no_first _ k.0 (sym k.1 ∙ r)
 
 pub returns-in-None : goal.returns-in-None
 returns-in-None c =
-    is_piece c.args.bytes.now c.in_ok-kind.field-0 c.front_element.new.cursor c.in-OfPiece.field-0 c.in-OfPiece.kind c.in-OfPiece.text
-    (c.in_ok-kind.ensures.front ∙ ap (λ x. front_of (element_at Nothing x)) c.new-cursor.ensures) c.in-OfPiece.is
-    (c.in_ok-kind.ensures.rest ∙ ap (λ x. rest_of (element_at Nothing x)) c.new-cursor.ensures) c.in-None.ensures
+    found_one c.args.bytes.now _ c.in-OfPiece.kind c.in-OfPiece.text
+    (sym c.in-OfPiece.is ∙ (c.in_ok-front.ensures.front ∙ ap (λ t. front_of (element_at Nothing t)) c.new-cursor.ensures))
+    (sym (c.in_ok-front.ensures.rest ∙ ap (λ t. rest_of (element_at Nothing t)) c.new-cursor.ensures) ∙ c.in-None.ensures)
