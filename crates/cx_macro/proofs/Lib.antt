@@ -3,6 +3,7 @@ pub mod AnswerLaws
 pub mod BoundLaws
 pub mod OutcomeLaws
 pub mod PieceLaws
+pub mod LevelLaws
 pub mod ListLaws
 pub mod PartLaws
 pub mod PastingLaws

@@ -1,5 +1,5 @@
 -- A token list, node by node.
-use Rattle.std.proofs.Common.{◌≡◌, ℕ, ◌<◌, Bool, true, false, cond, ◌==◌, ◌||◌, List, [], ◌∷◌, ◌++◌, map, Option, Some, None, length, refl, sym, ◌∙◌, ap, subst, arith, IfSome, length-append}
+use Rattle.std.proofs.Common.{◌≡◌, ℕ, ◌+◌, ◌<◌, Bool, true, false, cond, ◌==◌, ◌||◌, List, [], ◌∷◌, ◌++◌, map, Option, Some, None, length, refl, sym, ◌∙◌, ap, subst, arith, IfSome, length-append}
 use Rattle.std.proofs.lemmas.List.{append_assoc, append-nil, map-append, length-map}
 use Rattle.std.proofs.lemmas.Bool.Decides.{nat_tests}
 use Rattle.std.specs.List.{AllByRecursion, IsDistinct, find, list_any}
@@ -76,6 +76,19 @@ walk_next nodes at next n t found found' l w s k b f = step w.front w.rest w.who
               done = f ∙ (ap (λ y. y ++ t ∷ []) d ∙ (ap (λ y. tokens front ++ y ∷ []) token ∙ sym (map-append (λ (y : TokenNode). y.token) front (x ∷ []))));
             }
 
+-- there is a token at the next node
+token_there : (nodes : List TokenNode) (at : Option ℕ) (n : ℕ) (found : List Token) → IsTokenList nodes → Walked nodes at found → at ≡ Some n
+    → (t : Token) × IfSome (node_of n nodes) (λ x. t ≡ x.token)
+token_there nodes at n found l w s = by w.rest w.whole (sym s ∙ w.next)
+  where
+    by : (rest : List TokenNode) → nodes ≡ w.front ++ rest → ◌≡◌ {A = Option ℕ} (Some n) (first_of rest) → (t : Token) × IfSome (node_of n nodes) (λ x. t ≡ x.token)
+    by [] e a = absurd cc
+    by (x ∷ xs) e a =
+        let m : x.number ≡ n = cc in
+        let distinct : IsDistinct (λ a b. a == b) (map (λ y. y.number) (w.front ++ x ∷ xs)) = subst (λ y. IsDistinct (λ a b. a == b) (map (λ z. z.number) y)) e l.distinct in
+        let here : node_of n nodes ≡ Some x = ap (node_of n) e ∙ (ap (λ k. node_of k (w.front ++ x ∷ xs)) (sym m) ∙ node_is w.front xs x distinct) in
+        (x.token, subst (λ o. IfSome o (λ y. x.token ≡ y.token)) (sym here) refl)
+
 pub walk_less : (nodes : List TokenNode) (at : Option ℕ) (n : ℕ) (found : List Token) → Walked nodes at found → at ≡ Some n → length found < length nodes
 walk_less nodes at n found w s = step w.rest w.whole (sym s ∙ w.next)
   where
@@ -92,6 +105,32 @@ walk_ends nodes at found w s = step w.rest w.whole (sym s ∙ w.next)
     step : (rest : List TokenNode) → nodes ≡ w.front ++ rest → ◌≡◌ {A = Option ℕ} None (first_of rest) → found ≡ tokens nodes
     step [] e a = w.done ∙ ap tokens (sym (e ∙ append-nil w.front))
     step (x ∷ xs) e a = absurd cc
+
+-- the nodes of a front are counted
+pub record Counted (nodes : List TokenNode) (at : Option ℕ) (count : ℕ) : Type 0 where
+  pub found : List Token
+  pub walked : Walked nodes at found
+  pub count_is : count ≡ length found
+
+pub count_begins : (nodes : List TokenNode) (at : Option ℕ) → at ≡ first_of nodes → Counted nodes at 0
+count_begins nodes at e = record { found = []; walked = walk_begins nodes at [] e refl; count_is = refl }
+
+-- the next node is counted
+pub count_next : (nodes : List TokenNode) (at next : Option ℕ) (n : ℕ) (count count' : ℕ) → IsTokenList nodes → Counted nodes at count → at ≡ Some n
+    → next ≡ first_of (behind n nodes) → count' ≡ count + 1 → Counted nodes next count'
+count_next nodes at next n count count' l w s b e =
+    let t = token_there nodes at n w.found l w.walked s in
+    record {
+      found = w.found ++ t.0 ∷ [];
+      walked = walk_next nodes at next n t.0 w.found (w.found ++ t.0 ∷ []) l w.walked s t.1 b refl;
+      count_is = e ∙ (ap (λ c. c + 1) w.count_is ∙ sym (length-append w.found (t.0 ∷ [])));
+    }
+
+pub count_less : (nodes : List TokenNode) (at : Option ℕ) (n count : ℕ) → Counted nodes at count → at ≡ Some n → count < length nodes
+count_less nodes at n count w s = subst (λ c. c < length nodes) (sym w.count_is) (walk_less nodes at n w.found w.walked s)
+
+pub count_ends : (nodes : List TokenNode) (at : Option ℕ) (count : ℕ) → Counted nodes at count → at ≡ None → count ≡ length (tokens nodes)
+count_ends nodes at count w s = w.count_is ∙ ap length (walk_ends nodes at w.found w.walked s)
 
 -- the last node
 record Last (nodes : List TokenNode) (n : ℕ) : Type 0 where

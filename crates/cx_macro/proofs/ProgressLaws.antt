@@ -1,7 +1,9 @@
 -- Each step keeps what comes of the whole, and leaves less work.
 use Rattle.std.proofs.Common.{◌≡◌, ◌≢◌, ℕ, suc, ◌+◌, ◌-◌, ◌*◌, ◌<◌, ◌≤◌, Bool, true, false, cond, List, [], ◌∷◌, ◌++◌, Option, Some, None, refl, sym, ◌∙◌, ap, subst, arith, length, drop, get_or, length-append}
-use Rattle.std.proofs.lemmas.List.{drop_more, length_push}
+use Rattle.std.proofs.lemmas.List.{append-nil, drop_more, length_push}
 use Rattle.cx_tokens.specs.declared.token.Token.{Token}
+use Rattle.cx_tokens.specs.declared.token_list.TokenList.{TokenList}
+use Rattle.cx_tokens.specs.Nodes.{tokens}
 use Rattle.cx_macro.specs.declared.expansion.Call.{Call}
 use Rattle.cx_macro.specs.declared.expansion.State.{State}
 use Rattle.cx_macro.specs.declared.expansion.Step.TheVariants.{Ends, Goes}
@@ -9,7 +11,9 @@ use Rattle.cx_macro.specs.declared.fault.MacroFault.{MacroFault}
 use Rattle.cx_macro.specs.declared.fault.MacroFault.TheVariants.{ArgumentCount, BadPaste, NoMemory, TooManyTokens, UnclosedCall}
 use Rattle.cx_macro.specs.Arguments.{Bracketed, arguments_of, bracketed}
 use Rattle.cx_macro.specs.Expansion.{Expands, definition_at, refused, replaced, stays, use_of}
+use Rattle.cx_macro.specs.Expansion as expansion
 use Rattle.cx_macro.specs.Hiding.{common, with_name}
+use Rattle.cx_macro.specs.Levels.{Standing}
 use Rattle.cx_macro.specs.Macros.{Definition, Table}
 use Rattle.cx_macro.specs.Replacement.{Glues, is_expanded, other, parts_of, replacing}
 use Rattle.cx_macro.specs.Steps.{FailsAt, FailsBehind, FailsIn, FailsOn, IsBefore, IsIn, IsOn, Leads_to, Proceeds, Resumes, StepIs, Takes, macro_in, next_argument, suspended, waiting, weights, work, work_in}
@@ -247,13 +251,18 @@ step_resume_fails table bound old fault call calls a c f n start whole h =
     (subst (λ x. IsOn table bound start whole old.laid old.level.done x (call ∷ calls)) a
     (subst (λ x. IsOn table bound start whole old.laid old.level.done old.level.ahead x) c h))
 
-pub step_ends : (table : Table) (bound : ℕ) (old : State) → old.laid ≤ bound → old.level.ahead ≡ [] → old.calls ≡ []
-    → StepIs table bound old (Ends old.level.done old.laid)
-step_ends table bound old le a c = (
+pub step_ends : (table : Table) (bound : ℕ) (old : State) (list : TokenList) → old.laid ≤ bound → old.level.ahead ≡ [] → old.calls ≡ []
+    → tokens list ≡ old.level.done → StepIs table bound old (Ends list old.laid)
+step_ends table bound old list le a c e = (
   le,
-  λ start whole h. on_end table bound start whole old.laid old.level.done
-      (subst (λ x. IsOn table bound start whole old.laid old.level.done x []) a (subst (λ x. IsOn table bound start whole old.laid old.level.done old.level.ahead x) c h)),
+  λ start whole h. subst (λ ts. Expands table bound start whole (expansion.expanded ts old.laid)) (sym e)
+      (on_end table bound start whole old.laid old.level.done
+      (subst (λ x. IsOn table bound start whole old.laid old.level.done x []) a (subst (λ x. IsOn table bound start whole old.laid old.level.done old.level.ahead x) c h))),
 )
+
+-- the tokens of a list that is done
+pub list_done : (old new : Standing) (list : TokenList) → tokens list ≡ new.done ++ new.ahead → new ≡ old → old.ahead ≡ [] → tokens list ≡ old.done
+list_done old new list e n a = e ∙ (ap (λ (s : Standing). s.done ++ s.ahead) n ∙ (ap (λ ts. old.done ++ ts) a ∙ append-nil old.done))
 
 -- the parts of the arguments as the code has them
 pub glued_along : (d : Definition) (raw raw' expanded expanded' : List (List Token)) (made : Option (List Token)) → raw ≡ raw' → expanded ≡ expanded'

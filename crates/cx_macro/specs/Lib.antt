@@ -3,6 +3,7 @@ pub mod Arguments
 pub mod Calls
 pub mod Expansion
 pub mod Hiding
+pub mod Levels
 pub mod Macros
 pub mod Made
 pub mod Parts

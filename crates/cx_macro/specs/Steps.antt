@@ -1,6 +1,7 @@
 -- Macro replacement step by step: a list that is being expanded, and the calls whose arguments are expanded first.
 use Rattle.std.specs.Prelude.{◌≡◌, ℕ, ◌+◌, ◌-◌, ◌*◌, ◌<◌, ◌≤◌, List, [], ◌∷◌, cond, None, Some, ◌≢◌, get_or, drop, length}
 use Rattle.cx_tokens.specs.declared.token.Token.{Token}
+use Rattle.cx_tokens.specs.Nodes.{tokens}
 use Rattle.cx_macro.specs.declared.fault.MacroFault.{MacroFault}
 use Rattle.cx_macro.specs.declared.fault.MacroFault.TheVariants.{NoMemory}
 use Rattle.cx_macro.specs.declared.expansion.Call.{Call}
@@ -136,7 +137,7 @@ abbrev pub StepIs : Table → ℕ → State → Step → Type 0
 StepIs table bound old (Goes new) =
     Leads_to table bound (λ start whole. IsAt table bound start whole old) (work bound old.laid old.level.ahead old.calls) new
 StepIs table bound old (Ends done laid) =
-    (laid ≤ bound) × ((start : ℕ) (whole : List Token) → IsAt table bound start whole old → Expands table bound start whole (expanded done laid))
+    (laid ≤ bound) × ((start : ℕ) (whole : List Token) → IsAt table bound start whole old → Expands table bound start whole (expanded (tokens done) laid))
 
 abbrev pub FailsOn : Table → ℕ → State → MacroFault → Type 0
 FailsOn table bound old fault = Fails table bound (λ start whole. IsAt table bound start whole old) fault

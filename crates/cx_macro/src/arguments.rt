@@ -3,6 +3,7 @@ ghost use Rattle.std.specs.Prelude.{◌≡◌, [], ◌∷◌, IfOk, MatchOption,
 ghost use Rattle.cx_macro.specs.Arguments as meaning;
 ghost use Rattle.cx_macro.specs.Calls.{deeper};
 
+use crate::level::Level;
 use crate::marks::{is_close, is_comma, is_open};
 use crate::stack::Stack;
 use cx_base::{List, NoMemory};
@@ -41,13 +42,14 @@ fn parts(depth: usize, token: &Token) -> bool
 /// Takes what stands behind an opening bracket up to its closing one, where it has one.
 pub(crate) fn bracketed(
     alloc: Global,
-    ahead: &mut Stack<Token>,
+    level: &mut Level,
 ) -> Result<Option<(Vec<Token>, Token)>, NoMemory>
-    ensures { IfOk result (λ found. MatchOption found (meaning.bracketed 0 ahead.old ≡ None) (λ x. meaning.bracketed 0 ahead.old ≡ Some (record { inner = x.0.items; closing = x.1; behind = ahead.new }))) }
+    ensures found { IfOk result (λ found. MatchOption found (meaning.bracketed 0 level.old.ahead ≡ None) (λ x. meaning.bracketed 0 level.old.ahead ≡ Some (record { inner = x.0.items; closing = x.1; behind = level.new.ahead }))) }
+    ensures done { level.new.done ≡ level.old.done }
 {
     let mut inner = Vec::new(alloc);
     let mut depth = 0;
-    while let Some(token) = ahead.pop() {
+    while let Some(token) = level.pop() {
         if closes(depth, &token) {
             return Ok(Some((inner, token)));
         }

@@ -1,16 +1,19 @@
 //! Calls whose arguments are being expanded.
 ghost use Rattle.std.specs.Prelude.{◌≡◌, ◌≢◌, ◌+◌, ◌<◌, ◌≤◌, ◌∷◌, ℕ, List as list, length, IfOk, IfErr};
 ghost use Rattle.cx_tokens.specs.declared.token.Token.{Token};
+ghost use Rattle.cx_tokens.specs.Nodes.{tokens};
 ghost use Rattle.cx_macro.specs.Macros.{Table};
 ghost use Rattle.cx_macro.specs.Steps.{FailsBehind, FailsIn, Proceeds, Resumes, next_argument};
 
-use crate::expansion::{Call, Level, State};
+use crate::expansion::{Call, State};
 use crate::fault::MacroFault;
-use crate::parts::{Arguments, argument, copies, is_expanded};
+use crate::level::Level;
+use crate::lists::{list_of, tokens_of};
+use crate::parts::{Arguments, argument, is_expanded};
 use crate::replacing::replacement;
 use crate::stack::Stack;
 use cx_base::{List, NoMemory};
-use cx_tokens::Token;
+use cx_tokens::{Token, TokenList};
 use std::alloc::Global;
 
 /// How many tokens are laid behind a replacement of a name by others.
@@ -32,14 +35,14 @@ pub(crate) fn count(laid: u32, bound: u32, name: &Token, news: &[Token]) -> Resu
 }
 
 /// The argument of a call that is expanded next: nothing, where it is not to be.
-fn next_of(alloc: Global, call: &Call) -> Result<Vec<Token>, NoMemory>
-    ensures { IfOk result (λ v. v.items ≡ next_argument call.now) }
+fn next_of<'b>(call: &'b Call) -> &'b [Token]
+    ensures { result.now ≡ next_argument call.now }
 {
     let index = call.expanded.len();
     if is_expanded(call.stored, index) {
-        copies(alloc, argument(call.raw.as_slice(), index))
+        argument(call.raw.as_slice(), index)
     } else {
-        Ok(Vec::new(alloc))
+        &[]
     }
 }
 
@@ -53,15 +56,12 @@ fn begin<'a>(
     requires { length call.expanded < length call.raw }
     ensures { IfOk result (λ new. (table : Table) (bound : ℕ) → laid ≤ bound → Proceeds table bound laid call.entry calls.entry new) }
 {
-    let ahead = Stack::from_vec(next_of(alloc, &call)?);
+    let list = list_of(alloc, next_of(&call))?;
     let mut calls = calls;
     calls.push(call)?;
     Ok(State {
         laid,
-        level: Level {
-            done: List::new(alloc),
-            ahead,
-        },
+        level: Level::new(list),
         calls,
     })
 }
@@ -85,7 +85,7 @@ fn finish<'a>(
     let news = replacement(alloc, call.stored, arguments, &call.name, &call.hide)?;
     let laid = count(laid, bound, &call.name, news.as_slice())?;
     let mut level = call.outer;
-    level.ahead.push_all(news)?;
+    level.put(news)?;
     Ok(State { laid, level, calls })
 }
 
@@ -113,15 +113,15 @@ pub(crate) fn resume<'a>(
     alloc: Global,
     bound: u32,
     laid: u32,
-    done: List<Token>,
+    done: &TokenList,
     call: Call<'a>,
     calls: Stack<Call<'a>>,
 ) -> Result<State<'a>, MacroFault>
     requires { laid ≤ bound }
-    ensures new { IfOk result (λ new. (table : Table) → Resumes table bound laid done call.entry calls.entry new) }
-    ensures fault { IfErr result (λ fault. (table : Table) → FailsBehind table bound laid done call.entry calls.entry fault) }
+    ensures new { IfOk result (λ new. (table : Table) → Resumes table bound laid (tokens done.now) call.entry calls.entry new) }
+    ensures fault { IfErr result (λ fault. (table : Table) → FailsBehind table bound laid (tokens done.now) call.entry calls.entry fault) }
 {
     let mut call = call;
-    call.expanded.push(done)?;
+    call.expanded.push(tokens_of(alloc, done)?)?;
     proceed(alloc, bound, laid, call, calls)
 }

@@ -1,15 +1,9 @@
 //! A list while it is expanded.
+use crate::level::Level;
 use crate::stack::Stack;
 use crate::stored::Stored;
 use cx_base::{List, Text};
-use cx_tokens::Token;
-
-/// A list of tokens whose front is done.
-#[derive(Drop)]
-pub(crate) struct Level {
-    pub(crate) done: List<Token>,
-    pub(crate) ahead: Stack<Token>,
-}
+use cx_tokens::{Token, TokenList};
 
 /// A call whose arguments are expanded before it is replaced.
 #[derive(Drop)]
@@ -36,7 +30,7 @@ pub(crate) struct State<'a> {
 #[derive(Drop)]
 pub(crate) enum Step<'a> {
     Goes(State<'a>),
-    Ends { done: List<Token>, laid: u32 },
+    Ends { done: TokenList, laid: u32 },
 }
 
 /// What a token may be replaced by.

@@ -11,6 +11,7 @@ mod expansion;
 mod fault;
 mod hiding;
 mod laws;
+mod level;
 mod lists;
 mod macros;
 mod marks;

@@ -1,5 +1,6 @@
 //! Token lists, and their tokens.
-ghost use Rattle.std.specs.Prelude.{◌≡◌, IfOk};
+ghost use Rattle.std.specs.Prelude.{◌≡◌, ◌+◌, List as list_type, [], ◌∷◌, IfOk, MatchOption, length};
+ghost use Rattle.cx_tokens.specs.declared.token.Token.{Token as token_type};
 ghost use Rattle.cx_tokens.specs.Nodes.{tokens};
 
 use cx_base::{List, NoMemory};
@@ -31,4 +32,34 @@ pub(crate) fn list_of(alloc: Global, copied: &[Token]) -> Result<TokenList, NoMe
         last = Some(list.insert_after(last, token.copy()?)?);
     }
     Ok(list)
+}
+
+/// The first token of a list.
+pub(crate) fn first_of(list: &TokenList) -> Option<&Token>
+    ensures { MatchOption result (tokens list.now ≡ []) (λ t. (rest : list_type token_type) × (tokens list.now ≡ t.now ∷ rest)) }
+{
+    list.are_numbered();
+    let node = list.first()?;
+    Some(list.token(node))
+}
+
+/// A number and one more.
+fn one_more(count: u64) -> Result<u64, NoMemory>
+    ensures { IfOk result (λ n. n ≡ count + 1) }
+{
+    count.checked_add(1).ok_or(NoMemory)
+}
+
+/// How many tokens a list has.
+pub(crate) fn length_of(list: &TokenList) -> Result<u64, NoMemory>
+    ensures { IfOk result (λ n. n ≡ length (tokens list.now)) }
+{
+    list.are_numbered();
+    let mut count: u64 = 0;
+    let mut at = list.first();
+    while let Some(node) = at {
+        count = one_more(count)?;
+        at = list.next(node);
+    }
+    Ok(count)
 }

@@ -8,9 +8,7 @@ ghost use Rattle.cx_macro.specs.Made.{definition_by};
 ghost use Rattle.cx_macro.specs.Stored.{definition_of};
 
 use crate::fault::MacroFault;
-use crate::lists::{list_of, tokens_of};
-use crate::parts::copies;
-use crate::spelling::first;
+use crate::lists::{first_of, length_of, tokens_of};
 use crate::steps::run;
 use crate::stored::Stored;
 use cx_base::{List, NoMemory, Text};
@@ -177,25 +175,22 @@ impl Macros {
         ensures ok { IfOk result (λ x. ExpandsList self.now bound laid (tokens list) (expanded (tokens x.list) x.laid)) }
         ensures fault { IfErr result (λ fault. fault ≢ MacroFault.NoMemory → ExpandsList self.now bound laid (tokens list) (refused fault)) }
     {
-        let ahead = tokens_of(alloc, &list)?;
-        let first = first_laid(bound, laid, ahead.as_slice())?;
-        let ahead = copies(alloc, ahead.as_slice())?;
-        let (done, laid) = run(self, alloc, bound, first, ahead)?;
-        let list = list_of(alloc, done.as_slice())?;
+        let first = first_laid(bound, laid, &list)?;
+        let (list, laid) = run(self, alloc, bound, first, list)?;
         Ok(Expanded { list, laid })
     }
 }
 
 /// How many tokens are laid with those of a list.
-fn first_laid(bound: u32, laid: u32, ahead: &[Token]) -> Result<u32, MacroFault>
+fn first_laid(bound: u32, laid: u32, list: &TokenList) -> Result<u32, MacroFault>
     requires { laid ≤ bound }
-    ensures within { IfOk result (λ n. (n ≡ laid + length ahead.now) × (n ≤ bound)) }
-    ensures fault { IfErr result (λ fault. (table : Table) → fault ≢ MacroFault.NoMemory → ExpandsList table bound laid ahead.now (refused fault)) }
+    ensures within { IfOk result (λ n. (n ≡ laid + length (tokens list.now)) × (n ≤ bound)) }
+    ensures fault { IfErr result (λ fault. (table : Table) → fault ≢ MacroFault.NoMemory → ExpandsList table bound laid (tokens list.now) (refused fault)) }
 {
-    let Some((token, _)) = first(ahead) else {
+    let Some(token) = first_of(list) else {
         return Ok(laid);
     };
-    let total = (ahead.len() as u64)
+    let total = length_of(list)?
         .checked_add(u64::from(laid))
         .ok_or(MacroFault::NoMemory)?;
     if total <= u64::from(bound) {

@@ -50,19 +50,6 @@ impl<T> Stack<T> {
         items
     }
 
-    pub(crate) fn len(&self) -> usize
-        ensures { result ≡ length self.now }
-    {
-        self.items.len()
-    }
-
-    /// The member on top.
-    pub(crate) fn top(&self) -> Option<&T>
-        ensures { MatchOption result (self.now ≡ []) (λ x. (rest : list T) × (self.now ≡ x.now ∷ rest)) }
-    {
-        self.items.last()
-    }
-
     /// Takes the member on top.
     pub(crate) fn pop(&mut self) -> Option<T>
         ensures { MatchOption result ((self.old ≡ []) × (self.new ≡ [])) (λ x. self.old ≡ x ∷ self.new) }
@@ -78,18 +65,6 @@ impl<T: Drop> Stack<T> {
         ensures err { OnErr result (self.new ≡ self.old) }
     {
         self.items.push(item)?;
-        Ok(())
-    }
-
-    /// Puts members on top, the first of them topmost; a refused call changes nothing and gives the
-    /// members up.
-    pub(crate) fn push_all(&mut self, more: Vec<T>) -> Result<(), NoMemory>
-        ensures ok { OnOk result (self.new ≡ more.items ++ self.old) }
-        ensures err { OnErr result (self.new ≡ self.old) }
-    {
-        let mut more = more;
-        more.as_mut_slice().reverse();
-        self.items.append(&mut more)?;
         Ok(())
     }
 }

@@ -1,6 +1,7 @@
 //! The steps of macro replacement: a token stays, is replaced, or begins a call.
 ghost use Rattle.std.specs.Prelude.{◌≡◌, ◌≢◌, ◌≤◌, ◌∷◌, Some, IfOk, IfErr, IsTrue, ℕ};
 ghost use Rattle.cx_tokens.specs.declared.token.Token.{Token};
+ghost use Rattle.cx_tokens.specs.Nodes.{tokens};
 ghost use Rattle.cx_macro.specs.Expansion.{Expands, definition_at, expanded, refused, replaced, stays, use_of};
 ghost use Rattle.cx_macro.specs.Macros.{Table};
 ghost use Rattle.cx_macro.specs.Steps.{FailsAt, FailsOn, MeaningIs, StepIs, Takes};
@@ -9,9 +10,10 @@ ghost use Rattle.cx_macro.specs.Stored.{definition_of};
 
 use crate::arguments::{arguments_of, bracketed};
 use crate::calls::{count, proceed, resume};
-use crate::expansion::{Call, Level, Meaning, State, Step};
+use crate::expansion::{Call, Meaning, State, Step};
 use crate::fault::MacroFault;
 use crate::hiding::{common, is_among, with_name};
+use crate::level::Level;
 use crate::macros::Macros;
 use crate::marks::{is_name, is_open};
 use crate::parts::Arguments;
@@ -19,7 +21,7 @@ use crate::replacing::replacement;
 use crate::stack::Stack;
 use crate::stored::{Stored, is_same};
 use cx_base::{List, Text};
-use cx_tokens::Token;
+use cx_tokens::{Token, TokenList};
 use std::alloc::Global;
 
 /// The name that stands for the line of its place (C11 6.10.8.1).
@@ -55,7 +57,7 @@ fn stay<'a>(state: State<'a>, token: Token) -> Result<State<'a>, MacroFault>
     ensures fault { IfErr result (λ fault. fault ≡ MacroFault.NoMemory) }
 {
     let mut state = state;
-    state.level.done.push(token)?;
+    state.level.keep(token)?;
     Ok(state)
 }
 
@@ -79,26 +81,27 @@ fn replace<'a>(
     let State { laid, level, calls } = state;
     let laid = count(laid, bound, &name, news.as_slice())?;
     let mut level = level;
-    level.ahead.push_all(news)?;
+    level.put(news)?;
     Ok(State { laid, level, calls })
 }
 
 /// Whether an opening bracket is ahead.
-fn begins_call(ahead: &Stack<Token>) -> bool
-    ensures { result ≡ begins_call ahead.now }
+fn begins_call(level: &Level) -> bool
+    ensures { result ≡ begins_call level.now.ahead }
 {
-    match ahead.top() {
+    match level.peek() {
         None => false,
         Some(token) => is_open(token),
     }
 }
 
 /// Takes the opening bracket that is ahead.
-fn pass_bracket(ahead: &mut Stack<Token>)
-    requires { IsTrue (begins_call ahead.old) }
-    ensures { (bracket : Token) × (ahead.old ≡ bracket ∷ ahead.new) }
+fn pass_bracket(level: &mut Level)
+    requires { IsTrue (begins_call level.old.ahead) }
+    ensures ahead { (bracket : Token) × (level.old.ahead ≡ bracket ∷ level.new.ahead) }
+    ensures done { level.new.done ≡ level.old.done }
 {
-    let _open = ahead.pop();
+    let _open = level.pop();
 }
 
 /// Begins the call of a macro whose name was taken and whose opening bracket is ahead.
@@ -118,8 +121,8 @@ fn call<'a>(
 {
     let State { laid, level, calls } = state;
     let mut outer = level;
-    pass_bracket(&mut outer.ahead);
-    let Some((inner, closing)) = bracketed(alloc, &mut outer.ahead)? else {
+    pass_bracket(&mut outer);
+    let Some((inner, closing)) = bracketed(alloc, &mut outer)? else {
         return Err(MacroFault::UnclosedCall { at: name.place });
     };
     let Some(raw) = arguments_of(alloc, parameters.len(), stored.variadic, inner)? else {
@@ -153,7 +156,7 @@ fn take_name<'a>(
     let Some(parameters) = &stored.parameters else {
         return replace(alloc, bound, state, stored, name);
     };
-    if begins_call(&state.level.ahead) {
+    if begins_call(&state.level) {
         call(alloc, bound, state, stored, parameters.as_slice(), name)
     } else {
         stay(state, name)
@@ -194,37 +197,34 @@ pub(crate) fn step<'a>(
     ensures fault { IfErr result (λ fault. FailsOn macros.now bound state.entry fault) }
 {
     let mut state = state;
-    if let Some(token) = state.level.ahead.pop() {
+    if let Some(token) = state.level.pop() {
         return Ok(Step::Goes(take(macros, alloc, bound, state, token)?));
     }
     let State { laid, level, calls } = state;
     let mut calls = calls;
-    let done = level.done;
+    let done = level.into_list();
     match calls.pop() {
         None => Ok(Step::Ends { done, laid }),
-        Some(call) => Ok(Step::Goes(resume(alloc, bound, laid, done, call, calls)?)),
+        Some(call) => Ok(Step::Goes(resume(alloc, bound, laid, &done, call, calls)?)),
     }
 }
 
-/// Expands tokens, of which so many have been laid, with those before them.
+/// Expands a list, whose tokens have been laid with those before them.
 pub(crate) fn run(
     macros: &Macros,
     alloc: Global,
     bound: u32,
     laid: u32,
-    tokens: Vec<Token>,
-) -> Result<(List<Token>, u32), MacroFault>
+    list: TokenList,
+) -> Result<(TokenList, u32), MacroFault>
     requires { laid ≤ bound }
-    ensures outcome { IfOk result (λ x. Expands macros.now bound laid tokens.items (expanded x.0 x.1)) }
+    ensures outcome { IfOk result (λ x. Expands macros.now bound laid (tokens list) (expanded (tokens x.0) x.1)) }
     ensures within { IfOk result (λ x. x.1 ≤ bound) }
-    ensures fault { IfErr result (λ fault. fault ≢ MacroFault.NoMemory → Expands macros.now bound laid tokens.items (refused fault)) }
+    ensures fault { IfErr result (λ fault. fault ≢ MacroFault.NoMemory → Expands macros.now bound laid (tokens list) (refused fault)) }
 {
     let mut state = State {
         laid,
-        level: Level {
-            done: List::new(alloc),
-            ahead: Stack::from_vec(tokens),
-        },
+        level: Level::new(list),
         calls: Stack::new(alloc),
     };
     loop {

@@ -9,9 +9,15 @@ use std::str;
 
 /// Definitions, one a line, a text, and what it expands to: the tokens with a space between each
 /// two, or the fault.
-const EXPANSIONS: [(&str, &str, &str); 49] = [
+const EXPANSIONS: [(&str, &str, &str); 51] = [
     ("f(x) f(x) + 1", "f(f(2))", "f ( f ( 2 ) + 1 ) + 1"),
     ("s(x) #x", "s(a  b)", "\"a b\""),
+    ("T 100", "int table[T];", "int table [ 100 ] ;"),
+    (
+        "max(a, b) ((a) > (b) ? (a) : (b))",
+        "max(x, y+1)",
+        "( ( x ) > ( y + 1 ) ? ( x ) : ( y + 1 ) )",
+    ),
     ("s(x) #x", "s(1,2)", "count@1:1"),
     ("s(x) #x", " s()", "\"\""),
     ("s(x) #x", "s(s(1))", "\"s(1)\""),

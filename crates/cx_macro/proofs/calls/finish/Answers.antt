@@ -23,4 +23,4 @@ returns-clause-new c = λ table.
     finishes table c.args.bound c.args.laid c.args.call c.args.calls _ m.0 c.in_ok-news.news.items c.requires
     (glued_along _ _ _ _ _ _ c.as_slice.ensures c.as_slice-2.ensures m.1) m.2
     (subst (λ x. c.in_ok-laid.laid ≡ c.args.laid + (length x + 1)) c.as_slice-3.ensures.value c.in_ok-laid.ensures.within.0)
-    c.in_ok-laid.ensures.within.1 refl c.in_ok-push_all.ensures.ok refl
+    c.in_ok-laid.ensures.within.1 c.in_ok-put.ensures.0 c.in_ok-put.ensures.1 refl

@@ -1,8 +1,9 @@
 use Rattle.std.proofs.Common.{arith}
 use Rattle.std.proofs.lemmas.Grind.{common_steps}
+use Rattle.cx_tokens.specs.Nodes.{tokens}
 use Rattle.cx_macro.proofs.BoundLaws.{list_too_long}
 use Rattle.cx_macro.proofs.macros.first_laid.Goals as goal
 
 pub returns-else-total-from-clause-fault : goal.returns-else-total-from-clause-fault
 returns-else-total-from-clause-fault c = λ table n.
-    list_too_long table c.args.bound c.args.laid c.in_ok-total.total c.in-Some.token.now _ c.args.ahead.now c.in-Some.ensures (omega arith) (grind (arith, common_steps))
+    list_too_long table c.args.bound c.args.laid c.in_ok-total.total c.in-Some.token.now c.in-Some.ensures.0 (tokens c.args.list.now) c.in-Some.ensures.1 (omega arith) (grind (arith, common_steps))

@@ -20,4 +20,4 @@ returns-clause-new c = λ table u.
     let m = c.in_ok-news.ensures.made in
     takes_object table c.args.bound c.args.name c.args.state _ _ c.in_ok-hide.hide m.0 c.in_ok-news.news.items u m.1 c.in_ok-hide.ensures m.2
     (subst (λ x. c.in_ok-laid.laid ≡ c.args.state.laid + (length x + 1)) c.as_slice.ensures.value c.in_ok-laid.ensures.within.0)
-    c.in_ok-laid.ensures.within.1 refl c.in_ok-push_all.ensures.ok refl
+    c.in_ok-laid.ensures.within.1 c.in_ok-put.ensures.0 c.in_ok-put.ensures.1 refl

@@ -1,0 +1,104 @@
+//! Lists that are being expanded.
+ghost use Rattle.std.specs.Prelude.{◌≡◌, ℕ, List as list, [], ◌∷◌, ◌++◌, IfSome, MatchOption, OnOk, IsTrue};
+ghost use Rattle.cx_tokens.specs.declared.token.Token.{Token as token_type};
+ghost use Rattle.cx_tokens.specs.Nodes.{first_of, is_live, tokens};
+ghost use Rattle.cx_macro.specs.Levels.{nodes_ahead};
+
+use cx_base::NoMemory;
+use cx_tokens::{Node, Token, TokenList};
+use std::marker::Model;
+
+/// A list of tokens whose front is done, which contracts see as the tokens done and those ahead. It
+/// is edited in place.
+#[derive(Drop)]
+pub(crate) struct Level {
+    list: TokenList,
+    // The last node that is done.
+    last: Option<Node>,
+}
+
+impl Model for Level {
+    ghost use Rattle.std.specs.Prelude.{IfSome, IsTrue};
+    ghost use Rattle.cx_tokens.specs.Nodes.{is_live};
+    ghost use Rattle.cx_macro.specs.Levels.{Standing, standing_of};
+
+    ghost Value = { Standing };
+
+    ghost view = { λ l. standing_of l.last l.list };
+
+    ghost invariant = { λ l. IfSome l.last (λ n. IsTrue (is_live n l.list)) };
+}
+
+impl Level {
+    /// A list of which nothing is done.
+    pub(crate) fn new(list: TokenList) -> Level
+        ensures { result ≡ record { done = []; ahead = tokens list } }
+    {
+        Level { list, last: None }
+    }
+
+    /// The first token ahead.
+    pub(crate) fn peek(&self) -> Option<&Token>
+        ensures { MatchOption result (self.now.ahead ≡ []) (λ t. (rest : list token_type) × (self.now.ahead ≡ t.now ∷ rest)) }
+    {
+        self.list.are_numbered();
+        let node = node_ahead(&self.list, self.last)?;
+        Some(self.list.token(node))
+    }
+
+    /// Takes the first token ahead out of the list.
+    pub(crate) fn pop(&mut self) -> Option<Token>
+        ensures { MatchOption result ((self.old.ahead ≡ []) × (self.new ≡ self.old)) (λ t. (self.old.ahead ≡ t ∷ self.new.ahead) × (self.new.done ≡ self.old.done)) }
+    {
+        self.list.are_numbered();
+        let node = node_ahead(&self.list, self.last)?;
+        Some(self.list.erase(node))
+    }
+
+    /// Puts a token behind those that are done, as done.
+    pub(crate) fn keep(&mut self, token: Token) -> Result<(), NoMemory>
+        ensures { OnOk result ((self.new.done ≡ self.old.done ++ token ∷ []) × (self.new.ahead ≡ self.old.ahead)) }
+    {
+        let node = self.list.insert_after(self.last, token)?;
+        self.last = Some(node);
+        Ok(())
+    }
+
+    /// Puts a token behind those that are done, as the first ahead.
+    pub(crate) fn push(&mut self, token: Token) -> Result<(), NoMemory>
+        ensures { OnOk result ((self.new.done ≡ self.old.done) × (self.new.ahead ≡ token ∷ self.old.ahead)) }
+    {
+        let _node = self.list.insert_after(self.last, token)?;
+        Ok(())
+    }
+
+    /// Puts tokens behind those that are done, as those ahead that come first.
+    pub(crate) fn put(&mut self, news: Vec<Token>) -> Result<(), NoMemory>
+        ensures { OnOk result ((self.new.done ≡ self.old.done) × (self.new.ahead ≡ news.items ++ self.old.ahead)) }
+    {
+        let mut news = news;
+        while let Some(token) = news.pop() {
+            self.push(token)?;
+        }
+        Ok(())
+    }
+
+    /// The list, done or not.
+    pub(crate) fn into_list(self) -> TokenList
+        ensures { tokens result ≡ self.done ++ self.ahead }
+    {
+        self.list
+    }
+}
+
+// The node behind the last that is done.
+fn node_ahead(list: &TokenList, last: Option<Node>) -> Option<Node>
+    requires { IfSome last (λ n. IsTrue (is_live n list.now)) }
+    ensures node { result ≡ first_of (nodes_ahead last list.now) }
+    ensures live { IfSome result (λ n. IsTrue (is_live n list.now)) }
+{
+    match last {
+        None => list.first(),
+        Some(node) => list.next(node),
+    }
+}
