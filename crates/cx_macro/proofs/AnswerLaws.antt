@@ -1,5 +1,5 @@
 -- What an expansion answers is the one outcome.
-use Rattle.std.proofs.Common.{◌≡◌, ◌≢◌, ℕ, ◌+◌, ◌≤◌, List, inl, inr, Result, Ok, Err, IfErr, IfOk, length, refl, sym, ◌∙◌, ap, subst}
+use Rattle.std.proofs.Common.{◌≡◌, ◌≢◌, ℕ, ◌+◌, ◌≤◌, List, inl, inr, Result, Ok, Err, IfErr, IfOk, length, refl, ◌∙◌, ap, subst}
 use Rattle.cx_tokens.specs.declared.token.Token.{Token}
 use Rattle.cx_tokens.specs.Nodes.{tokens}
 use Rattle.cx_macro.specs.declared.fault.MacroFault.{MacroFault}
@@ -16,10 +16,6 @@ pub list_within : (table : Table) (bound laid first : ℕ) (list view ahead : Li
 list_within table bound laid first list view ahead o e le f g h =
     let count : first ≡ laid + length list = e ∙ ap (λ x. laid + length x) f in
     within (subst (λ n. n ≤ bound) count le) (subst (λ n. Expands table bound n list o) count (subst (λ x. Expands table bound first x o) g h))
-
-pub made_list : (table : Table) (bound laid after : ℕ) (list done made : List Token) → made ≡ done → ExpandsList table bound laid list (expanded done after)
-    → ExpandsList table bound laid list (expanded made after)
-made_list table bound laid after list done made e h = subst (λ x. ExpandsList table bound laid list (expanded x after)) (sym e) h
 
 pub answers : (table : Table) (bound laid : ℕ) (list : List Token) (r : Result Expanded MacroFault)
     → IfOk r (λ x. ExpandsList table bound laid list (expanded (tokens x.list) x.laid))

@@ -1,5 +1,5 @@
 -- Brackets and arguments, token by token.
-use Rattle.std.proofs.Common.{◌≡◌, ℕ, zero, suc, ◌+◌, ◌-◌, List, [], ◌∷◌, ◌++◌, Bool, true, false, cond, ◌&&◌, ◌==◌, Option, Some, None, refl, sym, ◌∙◌, ap, subst, arith}
+use Rattle.std.proofs.Common.{◌≡◌, ℕ, zero, suc, ◌+◌, ◌-◌, List, [], ◌∷◌, ◌++◌, Bool, true, false, cond, ◌&&◌, ◌==◌, Option, Some, None, refl, sym, ◌∙◌, ap, subst, arith, ◌⊎◌, ⊎_elim, ◌<◌, MatchOption}
 use Rattle.std.proofs.lemmas.List.{append_assoc, append-nil}
 use Rattle.std.proofs.lemmas.Bool.Decides.{nat_tests}
 use Rattle.std.proofs.Common.{bytes_eq, codes, length, ◌*◌, ◌≤◌}
@@ -9,6 +9,9 @@ use Rattle.cx_tokens.specs.Brackets.{is_punct, is_punctuator}
 use Rattle.cx_macro.specs.Steps.{weights}
 use Rattle.cx_macro.specs.Arguments.{Bracketed, arguments_of, Cut, Named, bracketed, cut_at_comma, text_between, tokens_or_none, with_variable, is_close, is_comma, is_open, named_arguments, with_argument, with_front, with_inner}
 use Rattle.cx_macro.specs.Calls.{behind_arguments, behind_front, behind_inner, deeper}
+use Rattle.cx_macro.specs.Segments.{Cuts, CutsText, left_behind}
+use Rattle.cx_macro.specs.Segments.Cuts.{cuts_none, cuts_one}
+use Rattle.cx_macro.specs.declared.segment.Segment.{Segment}
 
 behind_inner-push : (front : List Token) (t : Token) (b : Option Bracketed) → behind_inner front (with_inner t b) ≡ behind_inner (front ++ t ∷ []) b
 behind_inner-push front t None = refl
@@ -132,6 +135,10 @@ pub cut_none : (front ahead : List Token) (depth : ℕ) (all : Cut) → behind_f
     → all ≡ record { front = front; behind = None }
 cut_none front ahead depth all h w = sym (subst (λ x. behind_front front (cut_at_comma depth x) ≡ all) w h) ∙ cut_end front depth
 
+pub behind_arguments-nil : (n : Option Named) → behind_arguments [] n ≡ n
+behind_arguments-nil None = refl
+behind_arguments-nil (Some n) = refl
+
 behind_arguments-push : (front : List (List Token)) (argument : List Token) (n : Option Named)
     → behind_arguments front (with_argument argument n) ≡ behind_arguments (front ++ argument ∷ []) n
 behind_arguments-push front argument None = refl
@@ -232,7 +239,7 @@ named_fits (suc n) (Some ts) =
     argument_fits (text_room (cut_at_comma 0 ts).behind) (2 * length ts + 2) (cut_at_comma 0 ts).front (named_arguments n (cut_at_comma 0 ts).behind)
     (named_fits n (cut_at_comma 0 ts).behind) (let h = cut_room 0 ts in omega (arith, h))
 
-weights-append : (a b : List (List Token)) → weights (a ++ b) ≡ weights a + weights b
+pub weights-append : (a b : List (List Token)) → weights (a ++ b) ≡ weights a + weights b
 weights-append [] b = omega arith
 weights-append (x ∷ xs) b = let h = weights-append xs b in omega (arith, h)
 
@@ -268,3 +275,96 @@ arguments_weight n variadic inner raw e =
     between zero [] = omega arith
     between zero (t ∷ ts) = omega arith
     between (suc n) inner = omega arith
+
+-- segments one behind the other
+pub cuts_both : {a b : List Segment} {first middle last : List Token} {x y : List (List Token)} → Cuts a first x middle → Cuts b middle y last
+    → Cuts (a ++ b) first (x ++ y) last
+cuts_both cuts_none d = d
+cuts_both (cuts_one s piece ending p e c) d = cuts_one s piece ending p e (cuts_both c d)
+
+-- a text with a closing bracket behind it is the front, one token that ends it, and the rest
+Splits : List Token → Cut → Type 0
+Splits ts cut =
+    (closing : Token) (behind : List Token)
+    → (ending : List Token) × (1 ≡ length ending) × (ts ++ closing ∷ behind ≡ cut.front ++ (ending ++ left_behind cut.behind closing behind))
+
+split_first : (parts : Bool) (t : Token) (ts : List Token) (cut : Cut) → Splits ts cut
+    → Splits (t ∷ ts) (cond parts (record { front = []; behind = Some ts }) (with_front t cut))
+unfolding Splits
+split_first true t ts cut h closing behind = (t ∷ [], refl, refl)
+split_first false t ts cut h closing behind = let p = h closing behind in (p.0, p.1, ap (λ x. t ∷ x) p.2)
+
+cut_splits : (depth : ℕ) (ts : List Token) → Splits ts (cut_at_comma depth ts)
+unfolding Splits cut_at_comma
+cut_splits depth [] closing behind = (closing ∷ [], refl, refl)
+cut_splits depth (t ∷ ts) closing behind =
+    split_first (is_comma t && (depth == 0)) t ts (cut_at_comma (cond (is_open t) (depth + 1) (cond (is_close t) (depth - 1) depth)) ts)
+    (cut_splits (cond (is_open t) (depth + 1) (cond (is_close t) (depth - 1) depth)) ts) closing behind
+
+-- the segment of the tokens up to a comma
+cuts_front : (s : Segment) (ts front : List Token) (rest : Option (List Token)) → cut_at_comma 0 ts ≡ record { front = front; behind = rest }
+    → s.tokens ≡ length front → s.is_ended ≡ true → CutsText (s ∷ []) ts (front ∷ []) rest
+unfolding Splits
+cuts_front s ts front rest c n e closing behind =
+    let p = subst (Splits ts) c (cut_splits 0 ts) closing behind in
+    subst (λ x. Cuts (s ∷ []) x (front ∷ []) (left_behind rest closing behind)) (sym p.2)
+    (cuts_one s front p.0 n (ap (λ b. cond b 1 0) e ∙ p.1) cuts_none)
+
+pub cuts_more : (segments segments' : List Segment) (text ts front : List Token) (raw : List (List Token)) (left rest : Option (List Token)) (s : Segment)
+    → CutsText segments text raw left → left ≡ Some ts → cut_at_comma 0 ts ≡ record { front = front; behind = rest }
+    → s.tokens ≡ length front → s.is_ended ≡ true → segments' ≡ segments ++ s ∷ [] → CutsText segments' text (raw ++ front ∷ []) rest
+cuts_more segments segments' text ts front raw left rest s h l c n e p closing behind =
+    subst (λ x. Cuts x (text ++ closing ∷ behind) (raw ++ front ∷ []) (left_behind rest closing behind)) (sym p)
+    (cuts_both (subst (CutsText segments text raw) l h closing behind) (cuts_front s ts front rest c n e closing behind))
+
+-- the segment of the variable argument
+pub cuts_absent : (behind : Option (List Token)) → behind ≡ None → (closing : Token) (rest : List Token)
+    → Cuts (record { tokens = 0; is_ended = false } ∷ []) (left_behind behind closing rest) (tokens_or_none behind ∷ []) rest
+cuts_absent behind e closing rest =
+    subst (λ b. Cuts (record { tokens = 0; is_ended = false } ∷ []) (left_behind b closing rest) (tokens_or_none b ∷ []) rest) (sym e)
+    (cuts_one (record { tokens = 0; is_ended = false }) [] [] refl refl cuts_none)
+
+pub cuts_present : (behind : Option (List Token)) (ts : List Token) (n : ℕ) → behind ≡ Some ts → n ≡ length ts → (closing : Token) (rest : List Token)
+    → Cuts (record { tokens = n; is_ended = true } ∷ []) (left_behind behind closing rest) (tokens_or_none behind ∷ []) rest
+cuts_present behind ts n e l closing rest =
+    subst (λ b. Cuts (record { tokens = n; is_ended = true } ∷ []) (left_behind b closing rest) (tokens_or_none b ∷ []) rest) (sym e)
+    (cuts_one (record { tokens = n; is_ended = true }) ts (closing ∷ []) l refl cuts_none)
+
+-- the arguments with the variable one, and their segments
+pub cuts_variable : (variadic : Bool) (named : Named) (segments segments' : List Segment) (text : List Token) (s : Segment) → variadic ≡ true
+    → CutsText segments text named.arguments named.behind
+    → ((closing : Token) (rest : List Token) → Cuts (s ∷ []) (left_behind named.behind closing rest) (tokens_or_none named.behind ∷ []) rest)
+    → segments' ≡ segments ++ s ∷ []
+    → (all : List (List Token)) × (with_variable variadic (Some named) ≡ Some all) × CutsText segments' text all None
+cuts_variable variadic named segments segments' text s v h k p = (
+  named.arguments ++ tokens_or_none named.behind ∷ [],
+  ap (λ b. with_variable b (Some named)) v,
+  λ closing behind.
+      subst (λ x. Cuts x (text ++ closing ∷ behind) (named.arguments ++ tokens_or_none named.behind ∷ []) behind) (sym p) (cuts_both (h closing behind) (k closing behind)),
+)
+
+pub cuts_exact : (variadic : Bool) (arguments : List (List Token)) (left : Option (List Token)) (segments : List Segment) (text : List Token) → variadic ≡ false → left ≡ None
+    → CutsText segments text arguments left
+    → (all : List (List Token)) × (with_variable variadic (Some (record { arguments = arguments; behind = left })) ≡ Some all) × CutsText segments text all None
+cuts_exact variadic arguments left segments text v e h = (
+  arguments,
+  ap (λ b. with_variable b (Some (record { arguments = arguments; behind = left }))) v ∙ ap (λ b. with_variable false (Some (record { arguments = arguments; behind = b }))) e,
+  subst (CutsText segments text arguments) e h,
+)
+
+-- where there is a parameter, an empty text is an argument
+pub arguments_named : (n : ℕ) (variadic : Bool) (inner : List Token) → (0 < n) ⊎ (variadic ≡ true)
+    → arguments_of n variadic inner ≡ with_variable variadic (named_arguments n (Some inner))
+unfolding arguments_of named_arguments
+arguments_named zero variadic [] h =
+    ⊎_elim
+    (λ (l : 0 < 0). absurd (omega arith))
+    (λ (v : variadic ≡ true). rw v refl)
+    h
+arguments_named zero variadic (t ∷ ts) h = refl
+arguments_named (suc n) variadic inner h = refl
+
+-- what is said of an answer, with less said of each
+pub answer_weaker : {X : Type 0} (o : Option X) (P Q : Type 0) (R S : X → Type 0) → (P → Q) → ((x : X) → R x → S x) → MatchOption o P R → MatchOption o Q S
+answer_weaker None P Q R S f g h = f h
+answer_weaker (Some x) P Q R S f g h = g x h

@@ -1,19 +1,16 @@
 -- A list of tokens of which a front is done, and what the edits at the end of that front make of it.
-use Rattle.std.proofs.Common.{◌≡◌, ℕ, Bool, true, false, cond, ◌==◌, ◌||◌, List, [], ◌∷◌, ◌++◌, map, Option, Some, None, refl, sym, ◌∙◌, ap, ap₂, subst, arith, IfSome, ⊎_elim, append_assoc}
+use Rattle.std.proofs.Common.{◌≡◌, ℕ, Bool, true, false, cond, ◌==◌, ◌||◌, List, [], ◌∷◌, ◌++◌, map, Option, Some, None, refl, sym, ◌∙◌, ap, ap₂, subst, IfSome, ⊎_elim, append_assoc}
 use Rattle.std.proofs.lemmas.List.{map-append}
 use Rattle.std.proofs.lemmas.Bool.{cases_Bool, both_ways}
-use Rattle.std.proofs.lemmas.Bool.Decides.{nat_tests}
 use Rattle.cx_tokens.specs.declared.token.Token.{Token}
 use Rattle.cx_tokens.specs.Nodes.{IsTokenList, TokenNode, before, behind, erased, first_of, inserted, is_live, live_partner, node_of, settled, tokens, up_to}
 use Rattle.cx_tokens.proofs.NodeLaws.{IsNumbered, dead_parts, found, live_left, numbered_apart}
 use Rattle.cx_macro.specs.Levels.{nodes_ahead, nodes_done}
+use Rattle.cx_macro.proofs.ListLaws.{same_number}
 
 -- the last node that is done is one of the list
 abbrev pub IsLast : Option ℕ → List TokenNode → Type 0
 IsLast last nodes = IfSome last (λ n. is_live n nodes ≡ true)
-
-same_number : (n : ℕ) → (n == n) ≡ true
-same_number n = grind (arith, nat_tests)
 
 -- a node of a front, with a rest behind it
 up_to_front : (n : ℕ) (front rest : List TokenNode) → is_live n front ≡ true → up_to n (front ++ rest) ≡ up_to n front
@@ -242,13 +239,6 @@ first_is last nodes n k l e = by (nodes_ahead last nodes) refl e
     by : (ahead : List TokenNode) → nodes_ahead last nodes ≡ ahead → Some n ≡ first_of ahead → First last nodes n
     by [] a e = absurd cc
     by (x ∷ rest) a e = let s : x.number ≡ n = cc in subst (First last nodes) s (first_at last nodes x rest k l a)
-
-pub first_none : (last : Option ℕ) (nodes : List TokenNode) → None ≡ first_of (nodes_ahead last nodes) → tokens (nodes_ahead last nodes) ≡ []
-first_none last nodes e = by (nodes_ahead last nodes) e
-  where
-    by : (ahead : List TokenNode) → None ≡ first_of ahead → tokens ahead ≡ []
-    by [] e = refl
-    by (x ∷ rest) e = absurd cc
 
 pub first_ahead : (last : Option ℕ) (nodes : List TokenNode) (n : ℕ) (t : Token) (f : First last nodes n) → IfSome (node_of n nodes) (λ x. t ≡ x.token)
     → tokens (nodes_ahead last nodes) ≡ t ∷ tokens f.rest

@@ -3,6 +3,7 @@ pub mod AnswerLaws
 pub mod BoundLaws
 pub mod OutcomeLaws
 pub mod PieceLaws
+pub mod DefinableLaws
 pub mod LevelLaws
 pub mod ListLaws
 pub mod PartLaws
@@ -11,3 +12,5 @@ pub mod ProgressLaws
 pub mod StepLaws
 pub mod TableLaws
 pub mod UseLaws
+pub mod WalkLaws
+pub mod SegmentLaws

@@ -1,10 +1,10 @@
 -- A token list, node by node.
-use Rattle.std.proofs.Common.{◌≡◌, ℕ, ◌+◌, ◌<◌, Bool, true, false, cond, ◌==◌, ◌||◌, List, [], ◌∷◌, ◌++◌, map, Option, Some, None, length, refl, sym, ◌∙◌, ap, subst, arith, IfSome, length-append}
+use Rattle.std.proofs.Common.{◌≡◌, ℕ, ◌+◌, ◌<◌, true, false, cond, ◌==◌, List, [], ◌∷◌, ◌++◌, map, Option, Some, None, length, refl, sym, ◌∙◌, ap, subst, arith, IfSome, length-append}
 use Rattle.std.proofs.lemmas.List.{append_assoc, append-nil, map-append, length-map}
 use Rattle.std.proofs.lemmas.Bool.Decides.{nat_tests}
-use Rattle.std.specs.List.{AllByRecursion, IsDistinct, find, list_any}
+use Rattle.std.specs.List.{AllByRecursion, IsDistinct, find}
 use Rattle.cx_tokens.specs.declared.token.Token.{Token}
-use Rattle.cx_tokens.specs.Nodes.{IsTokenList, TokenNode, behind, first_of, inserted, is_live, last_of, new_node, node_of, tokens, up_to}
+use Rattle.cx_tokens.specs.Nodes.{IsTokenList, TokenNode, behind, first_of, node_of, tokens}
 
 -- the nodes of a front are done
 pub record Walked (nodes : List TokenNode) (at : Option ℕ) (found : List Token) : Type 0 where
@@ -17,7 +17,7 @@ pub record Walked (nodes : List TokenNode) (at : Option ℕ) (found : List Token
 pub walk_begins : (nodes : List TokenNode) (at : Option ℕ) (found : List Token) → at ≡ first_of nodes → found ≡ [] → Walked nodes at found
 walk_begins nodes at found e f = record { front = []; rest = nodes; whole = refl; next = e; done = f }
 
-same_number : (n : ℕ) → (n == n) ≡ true
+pub same_number : (n : ℕ) → (n == n) ≡ true
 same_number n = grind (arith, nat_tests)
 
 -- the number of a node is not that of one behind it
@@ -32,13 +32,6 @@ unfolding behind IsDistinct
 behind_is [] rest x h = ap (λ b. cond b rest (behind x.number rest)) (same_number x.number)
 behind_is (y ∷ ys) rest x h =
     ap (λ b. cond b (ys ++ x ∷ rest) (behind x.number (ys ++ x ∷ rest))) (apart y.number ys rest x h.0) ∙ behind_is ys rest x h.1
-
-up_to_is : (front rest : List TokenNode) (x : TokenNode) → IsDistinct (λ a b. a == b) (map (λ y. y.number) (front ++ x ∷ rest))
-    → up_to x.number (front ++ x ∷ rest) ≡ front ++ x ∷ []
-unfolding up_to IsDistinct
-up_to_is [] rest x h = ap (λ b. cond b (x ∷ []) (x ∷ up_to x.number rest)) (same_number x.number)
-up_to_is (y ∷ ys) rest x h =
-    ap (λ b. cond b (y ∷ []) (y ∷ up_to x.number (ys ++ x ∷ rest))) (apart y.number ys rest x h.0) ∙ ap (λ t. y ∷ t) (up_to_is ys rest x h.1)
 
 node_is : (front rest : List TokenNode) (x : TokenNode) → IsDistinct (λ a b. a == b) (map (λ y. y.number) (front ++ x ∷ rest))
     → node_of x.number (front ++ x ∷ rest) ≡ Some x
@@ -112,9 +105,6 @@ pub record Counted (nodes : List TokenNode) (at : Option ℕ) (count : ℕ) : Ty
   pub walked : Walked nodes at found
   pub count_is : count ≡ length found
 
-pub count_begins : (nodes : List TokenNode) (at : Option ℕ) → at ≡ first_of nodes → Counted nodes at 0
-count_begins nodes at e = record { found = []; walked = walk_begins nodes at [] e refl; count_is = refl }
-
 -- the next node is counted
 pub count_next : (nodes : List TokenNode) (at next : Option ℕ) (n : ℕ) (count count' : ℕ) → IsTokenList nodes → Counted nodes at count → at ≡ Some n
     → next ≡ first_of (behind n nodes) → count' ≡ count + 1 → Counted nodes next count'
@@ -124,73 +114,4 @@ count_next nodes at next n count count' l w s b e =
       found = w.found ++ t.0 ∷ [];
       walked = walk_next nodes at next n t.0 w.found (w.found ++ t.0 ∷ []) l w.walked s t.1 b refl;
       count_is = e ∙ (ap (λ c. c + 1) w.count_is ∙ sym (length-append w.found (t.0 ∷ [])));
-    }
-
-pub count_less : (nodes : List TokenNode) (at : Option ℕ) (n count : ℕ) → Counted nodes at count → at ≡ Some n → count < length nodes
-count_less nodes at n count w s = subst (λ c. c < length nodes) (sym w.count_is) (walk_less nodes at n w.found w.walked s)
-
-pub count_ends : (nodes : List TokenNode) (at : Option ℕ) (count : ℕ) → Counted nodes at count → at ≡ None → count ≡ length (tokens nodes)
-count_ends nodes at count w s = w.count_is ∙ ap length (walk_ends nodes at w.found w.walked s)
-
--- the last node
-record Last (nodes : List TokenNode) (n : ℕ) : Type 0 where
-  front : List TokenNode
-  node : TokenNode
-  whole : nodes ≡ front ++ node ∷ []
-  number : node.number ≡ n
-
-last_is : (nodes : List TokenNode) (n : ℕ) → last_of nodes ≡ Some n → Last nodes n
-last_is [] n e = absurd cc
-last_is (x ∷ []) n e = record { front = []; node = x; whole = refl; number = cc }
-last_is (x ∷ y ∷ ys) n e =
-    let l = last_is (y ∷ ys) n e in
-    record { front = x ∷ l.front; node = l.node; whole = ap (λ t. x ∷ t) l.whole; number = l.number }
-
-last_push : (nodes : List TokenNode) (x : TokenNode) → last_of (nodes ++ x ∷ []) ≡ Some x.number
-last_push [] x = refl
-last_push (y ∷ []) x = refl
-last_push (y ∷ z ∷ zs) x = last_push (z ∷ zs) x
-
--- the nodes of a list that is made, and its last
-pub record Made (nodes : List TokenNode) (last : Option ℕ) (made : List Token) : Type 0 where
-  pub end : last ≡ last_of nodes
-  pub all : tokens nodes ≡ made
-
-live_is : (front rest : List TokenNode) (x : TokenNode) → is_live x.number (front ++ x ∷ rest) ≡ true
-live_is [] rest x = ap (λ b. b || list_any (λ y. y.number == x.number) rest) (same_number x.number)
-live_is (y ∷ ys) rest x = ap (λ b. (y.number == x.number) || b) (live_is ys rest x) ∙ or_true (y.number == x.number)
-  where
-    or_true : (b : Bool) → (b || true) ≡ true
-    or_true true = refl
-    or_true false = refl
-
-pub made_live : (nodes : List TokenNode) (last : Option ℕ) (made : List Token) → Made nodes last made → IfSome last (λ n. is_live n nodes ≡ true)
-made_live nodes None made h = tt
-made_live nodes (Some n) made h =
-    let l = last_is nodes n (sym h.end) in
-    subst (λ x. is_live n x ≡ true) (sym l.whole) (subst (λ m. is_live m (l.front ++ l.node ∷ []) ≡ true) l.number (live_is l.front [] l.node))
-
-inserted_last : (nodes : List TokenNode) (last : Option ℕ) (x : TokenNode) → IsTokenList nodes → last ≡ last_of nodes → inserted last x nodes ≡ nodes ++ x ∷ []
-inserted_last [] None x l e = refl
-inserted_last (y ∷ ys) None x l e = absurd (some_last y ys e)
-  where
-    some_last : (y : TokenNode) (ys : List TokenNode) → None ≡ last_of (y ∷ ys) → ⊥
-    some_last y [] e = absurd cc
-    some_last y (z ∷ zs) e = some_last z zs e
-inserted_last nodes (Some n) x l e =
-    let p = last_is nodes n (sym e) in
-    let distinct : IsDistinct (λ a b. a == b) (map (λ y. y.number) (p.front ++ p.node ∷ [])) =
-    subst (λ y. IsDistinct (λ a b. a == b) (map (λ z. z.number) y)) p.whole l.distinct in
-    let after : behind n nodes ≡ [] = ap (behind n) p.whole ∙ (ap (λ m. behind m (p.front ++ p.node ∷ [])) (sym p.number) ∙ behind_is p.front [] p.node distinct) in
-    let before : up_to n nodes ≡ nodes = ap (up_to n) p.whole ∙ (ap (λ m. up_to m (p.front ++ p.node ∷ [])) (sym p.number)
-    ∙ (up_to_is p.front [] p.node distinct ∙ sym p.whole)) in
-    ap (λ y. up_to n nodes ++ x ∷ y) after ∙ ap (λ y. y ++ x ∷ []) before
-
-pub made_more : (nodes nodes' : List TokenNode) (last last' : Option ℕ) (n : ℕ) (t : Token) (made made' : List Token) → IsTokenList nodes → Made nodes last made
-    → nodes' ≡ inserted last (new_node n t) nodes → last' ≡ Some n → made' ≡ made ++ t ∷ [] → Made nodes' last' made'
-made_more nodes nodes' last last' n t made made' l h e f g =
-    let grown : nodes' ≡ nodes ++ new_node n t ∷ [] = e ∙ inserted_last nodes last (new_node n t) l h.end in
-    record {
-      end = f ∙ sym (ap last_of grown ∙ last_push nodes (new_node n t));
-      all = ap tokens grown ∙ (map-append (λ (y : TokenNode). y.token) nodes (new_node n t ∷ []) ∙ (ap (λ y. y ++ t ∷ []) h.all ∙ sym g));
     }

@@ -30,13 +30,6 @@ put_behind-append front left (Some ts) = ap Some (append_assoc front left ts)
 pub record Gluing (all : List Part) (front left : List Token) (rest : List Part) : Type 0 where
   pub glues : (made : Option (List Token)) → Glues left rest made → Glues [] all (put_behind front made)
 
-pub gluing_begins : (all : List Part) → Gluing all [] [] all
-gluing_begins all = record { glues = λ made g. subst (λ x. Glues [] all x) (same made) g }
-  where
-    same : (made : Option (List Token)) → made ≡ put_behind [] made
-    same None = refl
-    same (Some ts) = refl
-
 pub gluing_goes : (all : List Part) (front left ts : List Token) (rest : List Part) → Gluing all front left (tokens ts ∷ rest) → Gluing all (front ++ left) ts rest
 gluing_goes all front left ts rest h = record {
   glues = λ made g. subst (λ x. Glues [] all x) (sym (put_behind-append front left made)) (h.glues (put_behind left made) (by.goes_on g));

@@ -1,6 +1,7 @@
 -- Each step keeps what comes of the whole, and leaves less work.
-use Rattle.std.proofs.Common.{◌≡◌, ◌≢◌, ℕ, suc, ◌+◌, ◌-◌, ◌*◌, ◌<◌, ◌≤◌, Bool, true, false, cond, List, [], ◌∷◌, ◌++◌, Option, Some, None, refl, sym, ◌∙◌, ap, subst, arith, length, drop, get_or, length-append}
-use Rattle.std.proofs.lemmas.List.{append-nil, drop_more, length_push}
+use Rattle.std.proofs.Common.{◌≡◌, ◌≢◌, ℕ, suc, ◌+◌, ◌<◌, ◌≤◌, Bool, true, false, cond, ◌==◌, List, [], ◌∷◌, ◌++◌, Option, Some, None, refl, sym, ◌∙◌, ap, subst, arith, length, length-append}
+use Rattle.std.proofs.lemmas.List.{append-nil}
+use Rattle.std.proofs.lemmas.Bool.Decides.{nat_tests}
 use Rattle.cx_tokens.specs.declared.token.Token.{Token}
 use Rattle.cx_tokens.specs.declared.token_list.TokenList.{TokenList}
 use Rattle.cx_tokens.specs.Nodes.{tokens}
@@ -13,256 +14,321 @@ use Rattle.cx_macro.specs.Arguments.{Bracketed, arguments_of, bracketed}
 use Rattle.cx_macro.specs.Expansion.{Expands, definition_at, refused, replaced, stays, use_of}
 use Rattle.cx_macro.specs.Expansion as expansion
 use Rattle.cx_macro.specs.Hiding.{common, with_name}
-use Rattle.cx_macro.specs.Levels.{Standing}
 use Rattle.cx_macro.specs.Macros.{Definition, Table}
+use Rattle.cx_macro.specs.Parts.{is_raw}
 use Rattle.cx_macro.specs.Replacement.{Glues, is_expanded, other, parts_of, replacing}
-use Rattle.cx_macro.specs.Steps.{FailsAt, FailsBehind, FailsIn, FailsOn, IsBefore, IsIn, IsOn, Leads_to, Proceeds, Resumes, StepIs, Takes, macro_in, next_argument, suspended, waiting, weights, work, work_in}
+use Rattle.cx_macro.specs.Segments.{IsCut, Spread}
+use Rattle.cx_macro.specs.Steps.{FailsAt, FailsBehind, FailsIn, IsAt, IsBefore, IsIn, IsOn, Leads_to, Proceeds, Resumes, StepIs, Takes, macro_in, wanted_argument, weights, work, work_in}
 use Rattle.cx_macro.specs.Uses.{begins_call}
-use Rattle.cx_macro.proofs.CallLaws.{arguments_weight, bracketed_length}
-use Rattle.cx_macro.proofs.StepLaws.{in_bad_paste, in_called, in_next, in_replaced, in_too_many, object_bad_paste, object_too_many, on_begins, on_end, on_miscounted, on_object, on_start, on_stays, on_unclosed}
+use Rattle.cx_macro.proofs.CallLaws.{arguments_weight, bracketed_length, weights-append}
+use Rattle.cx_macro.proofs.StepLaws.{in_bad_paste, in_called, in_next, in_replaced, in_too_many, object_bad_paste, object_too_many, on_begins, on_end, on_last, on_miscounted, on_more, on_object, on_start, on_stays_outermost, on_stays_within, on_unclosed}
 use Rattle.cx_macro.proofs.UseLaws.{use_call, use_unclosed}
 
-moves : (table : Table) (bound : ℕ) (known : ℕ → List Token → Type 0) (before : ℕ) (new : State) (laid : ℕ) (done ahead : List Token) (calls : List Call)
-    → new.laid ≡ laid → new.level.done ≡ done → new.level.ahead ≡ ahead → new.calls ≡ calls
-    → ((start : ℕ) (whole : List Token) → known start whole → IsOn table bound start whole laid done ahead calls)
-    → work bound laid ahead calls < before → laid ≤ bound → Leads_to table bound known before new
-moves table bound known before new laid done ahead calls a b c d h less le = record {
+moves : (table : Table) (bound : ℕ) (known : ℕ → List Token → Type 0) (before : ℕ) (new : State) (laid : ℕ) (outermost done ahead : List Token) (more : List (List Token))
+    (calls : List Call)
+    → new.laid ≡ laid → new.buffer.done ≡ outermost → new.done ≡ done → new.buffer.ahead ≡ ahead → new.buffer.more ≡ more → new.calls ≡ calls
+    → ((start : ℕ) (whole : List Token) → known start whole → IsOn table bound start whole laid outermost done ahead more calls)
+    → work bound laid ahead more < before → laid ≤ bound → Leads_to table bound known before new
+moves table bound known before new laid outermost done ahead more calls a b c d e f h less le = record {
   keeps = λ start whole k.
-      subst (λ n. IsOn table bound start whole n new.level.done new.level.ahead new.calls) (sym a)
-      (subst (λ x. IsOn table bound start whole laid x new.level.ahead new.calls) (sym b)
-      (subst (λ x. IsOn table bound start whole laid done x new.calls) (sym c)
-      (subst (λ x. IsOn table bound start whole laid done ahead x) (sym d) (h start whole k))));
-  less = subst (λ n. work bound n new.level.ahead new.calls < before) (sym a)
-      (subst (λ x. work bound laid x new.calls < before) (sym c) (subst (λ x. work bound laid ahead x < before) (sym d) less));
+      subst (λ n. IsOn table bound start whole n new.buffer.done new.done new.buffer.ahead new.buffer.more new.calls) (sym a)
+      (subst (λ x. IsOn table bound start whole laid x new.done new.buffer.ahead new.buffer.more new.calls) (sym b)
+      (subst (λ x. IsOn table bound start whole laid outermost x new.buffer.ahead new.buffer.more new.calls) (sym c)
+      (subst (λ x. IsOn table bound start whole laid outermost done x new.buffer.more new.calls) (sym d)
+      (subst (λ x. IsOn table bound start whole laid outermost done ahead x new.calls) (sym e)
+      (subst (λ x. IsOn table bound start whole laid outermost done ahead more x) (sym f) (h start whole k))))));
+  less = λ start whole k. subst (λ n. work bound n new.buffer.ahead new.buffer.more < before) (sym a)
+      (subst (λ x. work bound laid x new.buffer.more < before) (sym d) (subst (λ x. work bound laid ahead x < before) (sym e) less));
   within = subst (λ n. n ≤ bound) (sym a) le;
 }
 
-next_length : (call : Call) → length (next_argument call) ≤ length (get_or call.raw (length call.expanded) [])
-next_length call = at (is_expanded (macro_in call) (length call.expanded) other (macro_in call).body) (get_or call.raw (length call.expanded) [])
+wanted_length : (d : Definition) (i : ℕ) (argument : List Token) → length (wanted_argument d i argument) ≤ length argument
+wanted_length d i argument = at (is_expanded d i other d.body) argument
   where
     at : (b : Bool) (argument : List Token) → length (cond b argument []) ≤ length argument
     at true argument = omega arith
     at false argument = omega arith
 
-weights_next : (raw : List (List Token)) (i : ℕ) → i < length raw → weights (drop i raw) ≡ 2 * length (get_or raw i []) + 1 + weights (drop (i + 1) raw)
-weights_next raw i h = ap weights (drop_more raw i [] h)
-
 -- a call begins its next argument
-pub begins : (table : Table) (bound laid : ℕ) (call : Call) (calls : List Call) (new : State) → laid ≤ bound → length call.expanded < length call.raw
-    → new.laid ≡ laid → new.level.done ≡ [] → new.level.ahead ≡ next_argument call → new.calls ≡ call ∷ calls → Proceeds table bound laid call calls new
-begins table bound laid call calls new le l a b c d =
-    moves table bound (λ start whole. IsIn table bound start whole laid call calls) (work_in bound laid call calls) new laid [] (next_argument call) (call ∷ calls) a b c d
-    (λ start whole h. on_begins table bound start whole laid call calls (next_argument call) h l refl)
-    (omega (arith, weights_next call.raw (length call.expanded) l, next_length call)) le
+pub begins : (table : Table) (bound laid : ℕ) (b : Spread) (call after : Call) (calls : List Call) (new : State) (kept : List Token) → laid ≤ bound
+    → length call.expanded < call.arguments → kept ≡ cond (is_raw (macro_in call) (length call.expanded) other (macro_in call).body) b.ahead []
+    → after ≡ record call { raw = call.raw ++ kept ∷ [] }
+    → new.laid ≡ laid → new.buffer.done ≡ b.done → new.done ≡ [] → new.buffer.ahead ≡ wanted_argument (macro_in call) (length call.expanded) b.ahead
+    → new.buffer.more ≡ b.more → new.calls ≡ after ∷ calls → Proceeds table bound laid b call calls new
+begins table bound laid b call after calls new kept le l k same e f g h i j =
+    let wanted = wanted_argument (macro_in call) (length call.expanded) b.ahead in
+    let shorter = wanted_length (macro_in call) (length call.expanded) b.ahead in
+    moves table bound (λ start whole. IsIn table bound start whole laid b.done b.ahead b.more call calls) (work_in bound laid b.ahead b.more) new laid b.done [] wanted b.more
+    (after ∷ calls) e f g h i j
+    (λ start whole known. on_begins table bound start whole laid b.done b.ahead wanted b.more kept [] call after calls known l k same refl refl)
+    (omega (arith, shorter)) le
 
 -- what goes on to be replaced
-replaced_less : (bound laid : ℕ) (news ahead : List Token) (calls : List Call) (more : ℕ) → laid + (length news + 1) ≤ bound
-    → work bound (laid + (length news + 1)) (news ++ ahead) calls < 2 * (bound - laid) + ((2 * length ahead + more) + waiting calls)
-replaced_less bound laid news ahead calls more le = omega (arith, length-append news ahead)
+replaced_less : (bound laid : ℕ) (news ahead : List Token) (more : List (List Token)) → laid + (length news + 1) ≤ bound
+    → work bound (laid + (length news + 1)) (news ++ ahead) more < work bound laid ahead more
+replaced_less bound laid news ahead more le = omega (arith, length-append news ahead)
+
+less_in : (m n : ℕ) → m < n → m < n + 1
+less_in m n h = omega (arith, h)
 
 -- a call is replaced
-pub finishes : (table : Table) (bound laid : ℕ) (call : Call) (calls : List Call) (new : State) (made news : List Token) → length call.raw ≤ length call.expanded
+pub finishes : (table : Table) (bound laid : ℕ) (b : Spread) (call : Call) (calls : List Call) (new : State) (made news : List Token) → call.arguments ≤ length call.expanded
     → Glues [] (parts_of (macro_in call) call.raw call.expanded other (macro_in call).body) (Some made) → news ≡ replacing call.name call.hide made
-    → new.laid ≡ laid + (length news + 1) → new.laid ≤ bound → new.level.done ≡ call.outer.done → new.level.ahead ≡ news ++ call.outer.ahead → new.calls ≡ calls
-    → Proceeds table bound laid call calls new
-finishes table bound laid call calls new made news l g e a le b c d =
+    → new.laid ≡ laid + (length news + 1) → new.laid ≤ bound → new.buffer.done ≡ b.done → new.done ≡ call.done → new.buffer.ahead ≡ news ++ b.ahead
+    → new.buffer.more ≡ b.more → new.calls ≡ calls → Proceeds table bound laid b call calls new
+finishes table bound laid b call calls new made news l g e a le c d f h i =
     let le' : laid + (length news + 1) ≤ bound = subst (λ n. n ≤ bound) a le in
-    moves table bound (λ start whole. IsIn table bound start whole laid call calls) (work_in bound laid call calls) new
-    (laid + (length news + 1)) call.outer.done (news ++ call.outer.ahead) calls a b c d
-    (λ start whole h. in_replaced table bound start whole laid call calls made news h l g e le')
-    (replaced_less bound laid news call.outer.ahead calls (weights (drop (length call.expanded) call.raw)) le') le'
+    moves table bound (λ start whole. IsIn table bound start whole laid b.done b.ahead b.more call calls) (work_in bound laid b.ahead b.more) new
+    (laid + (length news + 1)) b.done call.done (news ++ b.ahead) b.more calls a c d f h i
+    (λ start whole known. in_replaced table bound start whole laid b.done b.ahead b.more call calls made news known l g e le')
+    (less_in (work bound (laid + (length news + 1)) (news ++ b.ahead) b.more) (work bound laid b.ahead b.more) (replaced_less bound laid news b.ahead b.more le')) le'
 
-pub finish_bad_paste : (table : Table) (bound laid : ℕ) (call : Call) (calls : List Call) (fault : MacroFault) → length call.raw ≤ length call.expanded
+pub finish_bad_paste : (table : Table) (bound laid : ℕ) (b : Spread) (call : Call) (calls : List Call) (fault : MacroFault) → call.arguments ≤ length call.expanded
     → (fault ≢ NoMemory → (fault ≡ BadPaste call.name.place) × Glues [] (parts_of (macro_in call) call.raw call.expanded other (macro_in call).body) None)
-    → FailsIn table bound laid call calls fault
-finish_bad_paste table bound laid call calls fault l f n start whole h =
+    → FailsIn table bound laid b call calls fault
+finish_bad_paste table bound laid b call calls fault l f n start whole h =
     let p = f n in
-    subst (λ x. Expands table bound start whole (refused x)) (sym p.0) (in_bad_paste table bound start whole laid call calls h l p.1)
+    subst (λ x. Expands table bound start whole (refused x)) (sym p.0) (in_bad_paste table bound start whole laid b.done b.ahead b.more call calls h l p.1)
 
-pub finish_too_many : (table : Table) (bound laid : ℕ) (call : Call) (calls : List Call) (fault : MacroFault) (made news : List Token) → length call.raw ≤ length call.expanded
+pub finish_too_many : (table : Table) (bound laid : ℕ) (b : Spread) (call : Call) (calls : List Call) (fault : MacroFault) (made news : List Token)
+    → call.arguments ≤ length call.expanded
     → Glues [] (parts_of (macro_in call) call.raw call.expanded other (macro_in call).body) (Some made) → news ≡ replacing call.name call.hide made
     → (fault ≢ NoMemory → (bound < laid + (length news + 1)) × (fault ≡ TooManyTokens call.name.place (laid + (length news + 1))))
-    → FailsIn table bound laid call calls fault
-finish_too_many table bound laid call calls fault made news l g e f n start whole h =
+    → FailsIn table bound laid b call calls fault
+finish_too_many table bound laid b call calls fault made news l g e f n start whole h =
     let p = f n in
-    subst (λ x. Expands table bound start whole (refused x)) (sym p.1) (in_too_many table bound start whole laid call calls made news h l g e p.0)
+    subst (λ x. Expands table bound start whole (refused x)) (sym p.1)
+    (in_too_many table bound start whole laid b.done b.ahead b.more call calls made news h l g e p.0)
+
+-- the segments behind an argument that has ended
+abbrev pub Advances : Spread → Spread → Type 0
+Advances b after = (ahead : List Token) (more : List (List Token)) → b.more ≡ ahead ∷ more → (after.ahead ≡ ahead) × (after.more ≡ more)
+
+resumed : (table : Table) (bound laid : ℕ) (b next : Spread) (done : List Token) (call after : Call) (calls : List Call) (start : ℕ) (whole : List Token)
+    → after ≡ record call { expanded = call.expanded ++ done ∷ [] } → next.done ≡ b.done → Advances b next
+    → IsOn table bound start whole laid b.done done [] b.more (call ∷ calls)
+    → IsIn table bound start whole laid next.done next.ahead next.more after calls × (b.more ≡ next.ahead ∷ next.more)
+resumed table bound laid b next done call after calls start whole e d a h =
+    let m = on_more table bound start whole laid b.done done b.more call calls h in
+    let p = a m.0 m.1 m.2 in
+    let same : b.more ≡ next.ahead ∷ next.more = m.2 ∙ (ap (λ x. x ∷ m.1) (sym p.0) ∙ ap (λ x. next.ahead ∷ x) (sym p.1)) in (
+      subst (λ x. IsIn table bound start whole laid x next.ahead next.more after calls) (sym d)
+          (in_next table bound start whole laid b.done done next.ahead b.more next.more call after calls h e same),
+      same,
+    )
 
 -- an argument ends
-pub resumes : (table : Table) (bound laid : ℕ) (done : List Token) (call after : Call) (calls : List Call) (new : State)
-    → after ≡ record call { expanded = call.expanded ++ done ∷ [] } → Proceeds table bound laid after calls new → Resumes table bound laid done call calls new
-resumes table bound laid done call after calls new e p = record {
-  keeps = λ start whole h. p.keeps start whole (in_next table bound start whole laid done call after calls h e);
-  less =
-      let same : work_in bound laid after calls ≡ work bound laid [] (call ∷ calls) =
-      subst (λ x. work_in bound laid x calls ≡ work bound laid [] (call ∷ calls)) (sym e)
-      (ap (λ n. 2 * (bound - laid) + (2 * length call.outer.ahead + weights (drop n call.raw) + waiting calls)) (length_push call.expanded done)
-      ∙ zero_more (2 * (bound - laid)) (suspended call + waiting calls)) in
-      subst (λ n. work bound new.laid new.level.ahead new.calls < n) same p.less;
+pub resumes : (table : Table) (bound laid : ℕ) (b next : Spread) (done : List Token) (call after : Call) (calls : List Call) (new : State)
+    → after ≡ record call { expanded = call.expanded ++ done ∷ [] } → next.done ≡ b.done → Advances b next → Proceeds table bound laid next after calls new
+    → Resumes table bound laid b done call calls new
+resumes table bound laid b next done call after calls new e d a p = record {
+  keeps = λ start whole h. p.keeps start whole (resumed table bound laid b next done call after calls start whole e d a h).0;
+  less = λ start whole h.
+      let r = resumed table bound laid b next done call after calls start whole e d a h in
+      let less = p.less start whole r.0 in
+      let same : weights b.more ≡ weights (next.ahead ∷ next.more) = ap weights r.1 in
+      omega (arith, less, same);
   within = p.within;
 }
-  where
-    zero_more : (m n : ℕ) → m + n ≡ m + (2 * 0 + n)
-    zero_more m n = omega arith
 
-pub resume_fails : (table : Table) (bound laid : ℕ) (done : List Token) (call after : Call) (calls : List Call) (fault : MacroFault)
-    → after ≡ record call { expanded = call.expanded ++ done ∷ [] } → FailsIn table bound laid after calls fault → FailsBehind table bound laid done call calls fault
-resume_fails table bound laid done call after calls fault e f n start whole h =
-    f n start whole (in_next table bound start whole laid done call after calls h e)
+pub resume_fails : (table : Table) (bound laid : ℕ) (b next : Spread) (done : List Token) (call after : Call) (calls : List Call) (fault : MacroFault)
+    → after ≡ record call { expanded = call.expanded ++ done ∷ [] } → next.done ≡ b.done → Advances b next → FailsIn table bound laid next after calls fault
+    → FailsBehind table bound laid b done call calls fault
+resume_fails table bound laid b next done call after calls fault e d a f n start whole h =
+    f n start whole (resumed table bound laid b next done call after calls start whole e d a h).0
+
+-- whether a call waits
+pub none_waits : (calls : List Call) → (length calls == 0) ≡ true → calls ≡ []
+none_waits [] e = refl
+none_waits (call ∷ calls) e = absurd (no_suc (length calls) (grind (arith, nat_tests, e)))
+  where
+    no_suc : (n : ℕ) → suc n ≡ 0 → ⊥
+    no_suc n e = absurd (omega (arith, e))
+
+pub one_waits : (calls : List Call) → (length calls == 0) ≡ false → 0 < length calls
+one_waits calls e = grind (arith, nat_tests, e)
 
 -- a token stays
-pub takes_stays : (table : Table) (bound : ℕ) (t : Token) (old new : State) → use_of table t old.level.ahead ≡ stays → old.laid ≤ bound → new.laid ≡ old.laid
-    → new.level.done ≡ old.level.done ++ t ∷ [] → new.level.ahead ≡ old.level.ahead → new.calls ≡ old.calls → Takes table bound t old new
-takes_stays table bound t old new u le a b c d =
-    moves table bound (λ start whole. IsBefore table bound t start whole old) (work bound old.laid (t ∷ old.level.ahead) old.calls) new
-    old.laid (old.level.done ++ t ∷ []) old.level.ahead old.calls a b c d
-    (λ start whole h. on_stays table bound start whole old.laid old.level.done old.level.ahead t old.calls u h) (omega arith) le
+pub takes_stays_outermost : (table : Table) (bound : ℕ) (t : Token) (old new : State) → use_of table t old.buffer.ahead ≡ stays → old.laid ≤ bound → old.calls ≡ []
+    → new.laid ≡ old.laid → new.buffer.done ≡ old.buffer.done ++ t ∷ [] → new.done ≡ old.done → new.buffer.ahead ≡ old.buffer.ahead → new.buffer.more ≡ old.buffer.more
+    → new.calls ≡ old.calls → Takes table bound t old new
+takes_stays_outermost table bound t old new u le none a b c d e f =
+    moves table bound (λ start whole. IsBefore table bound t start whole old) (work bound old.laid (t ∷ old.buffer.ahead) old.buffer.more) new
+    old.laid (old.buffer.done ++ t ∷ []) old.done old.buffer.ahead old.buffer.more [] a b c d e (f ∙ none)
+    (λ start whole h. on_stays_outermost table bound start whole old.laid old.buffer.done old.done old.buffer.ahead old.buffer.more t u
+    (subst (λ x. IsOn table bound start whole old.laid old.buffer.done old.done (t ∷ old.buffer.ahead) old.buffer.more x) none h))
+    (omega arith) le
+
+pub takes_stays_within : (table : Table) (bound : ℕ) (t : Token) (old new : State) → use_of table t old.buffer.ahead ≡ stays → old.laid ≤ bound → 0 < length old.calls
+    → new.laid ≡ old.laid → new.buffer.done ≡ old.buffer.done → new.done ≡ old.done ++ t ∷ [] → new.buffer.ahead ≡ old.buffer.ahead → new.buffer.more ≡ old.buffer.more
+    → new.calls ≡ old.calls → Takes table bound t old new
+takes_stays_within table bound t old new u le some a b c d e f =
+    moves table bound (λ start whole. IsBefore table bound t start whole old) (work bound old.laid (t ∷ old.buffer.ahead) old.buffer.more) new
+    old.laid old.buffer.done (old.done ++ t ∷ []) old.buffer.ahead old.buffer.more old.calls a b c d e f
+    (λ start whole h. stays_in old.calls some start whole h) (omega arith) le
+  where
+    stays_in : (calls : List Call) → 0 < length calls → (start : ℕ) (whole : List Token)
+        → IsOn table bound start whole old.laid old.buffer.done old.done (t ∷ old.buffer.ahead) old.buffer.more calls
+        → IsOn table bound start whole old.laid old.buffer.done (old.done ++ t ∷ []) old.buffer.ahead old.buffer.more calls
+    stays_in [] l start whole h = absurd (omega (arith, l))
+    stays_in (call ∷ calls) l start whole h =
+        on_stays_within table bound start whole old.laid old.buffer.done old.done old.buffer.ahead old.buffer.more t call calls u h
 
 -- the name of an object-like macro is replaced
 pub takes_object : (table : Table) (bound : ℕ) (t : Token) (old new : State) (d : Definition) (hide : List (List ℕ)) (made news : List Token)
-    → use_of table t old.level.ahead ≡ replaced d → Glues [] (parts_of d [] [] other d.body) (Some made) → hide ≡ with_name t.text t.hide
-    → news ≡ replacing t hide made → new.laid ≡ old.laid + (length news + 1) → new.laid ≤ bound → new.level.done ≡ old.level.done
-    → new.level.ahead ≡ news ++ old.level.ahead → new.calls ≡ old.calls → Takes table bound t old new
-takes_object table bound t old new d hide made news u g k e a le b c f =
+    → use_of table t old.buffer.ahead ≡ replaced d → Glues [] (parts_of d [] [] other d.body) (Some made) → hide ≡ with_name t.text t.hide
+    → news ≡ replacing t hide made → new.laid ≡ old.laid + (length news + 1) → new.laid ≤ bound → new.buffer.done ≡ old.buffer.done → new.done ≡ old.done
+    → new.buffer.ahead ≡ news ++ old.buffer.ahead → new.buffer.more ≡ old.buffer.more → new.calls ≡ old.calls → Takes table bound t old new
+takes_object table bound t old new d hide made news u g k e a le b c f i j =
     let le' : old.laid + (length news + 1) ≤ bound = subst (λ n. n ≤ bound) a le in
-    let less : work bound (old.laid + (length news + 1)) (news ++ old.level.ahead) old.calls < work bound old.laid (t ∷ old.level.ahead) old.calls =
-    omega (arith, length-append news old.level.ahead) in
-    moves table bound (λ start whole. IsBefore table bound t start whole old) (work bound old.laid (t ∷ old.level.ahead) old.calls) new
-    (old.laid + (length news + 1)) old.level.done (news ++ old.level.ahead) old.calls a b c f
-    (λ start whole h. on_object table bound start whole old.laid old.level.done old.level.ahead made news t hide old.calls d h u g k e le') less le'
+    let less : work bound (old.laid + (length news + 1)) (news ++ old.buffer.ahead) old.buffer.more < work bound old.laid (t ∷ old.buffer.ahead) old.buffer.more =
+    omega (arith, length-append news old.buffer.ahead) in
+    moves table bound (λ start whole. IsBefore table bound t start whole old) (work bound old.laid (t ∷ old.buffer.ahead) old.buffer.more) new
+    (old.laid + (length news + 1)) old.buffer.done old.done (news ++ old.buffer.ahead) old.buffer.more old.calls a b c f i j
+    (λ start whole h. on_object table bound start whole old.laid old.buffer.done old.done old.buffer.ahead made news old.buffer.more t hide old.calls d h u g k e le') less le'
 
-pub object_fails : (table : Table) (bound : ℕ) (t : Token) (old : State) (d : Definition) (fault : MacroFault) → use_of table t old.level.ahead ≡ replaced d
+pub object_fails : (table : Table) (bound : ℕ) (t : Token) (old : State) (d : Definition) (fault : MacroFault) → use_of table t old.buffer.ahead ≡ replaced d
     → (fault ≢ NoMemory → (fault ≡ BadPaste t.place) × Glues [] (parts_of d [] [] other d.body) None) → FailsAt table bound t old fault
 object_fails table bound t old d fault u f n start whole h =
     let p = f n in
     subst (λ x. Expands table bound start whole (refused x)) (sym p.0)
-    (object_bad_paste table bound start whole old.laid old.level.done old.level.ahead t old.calls d h u p.1)
+    (object_bad_paste table bound start whole old.laid old.buffer.done old.done old.buffer.ahead old.buffer.more t old.calls d h u p.1)
 
 pub object_too_long : (table : Table) (bound : ℕ) (t : Token) (old : State) (d : Definition) (fault : MacroFault) (hide : List (List ℕ)) (made news : List Token)
-    → use_of table t old.level.ahead ≡ replaced d → Glues [] (parts_of d [] [] other d.body) (Some made) → hide ≡ with_name t.text t.hide
+    → use_of table t old.buffer.ahead ≡ replaced d → Glues [] (parts_of d [] [] other d.body) (Some made) → hide ≡ with_name t.text t.hide
     → news ≡ replacing t hide made
     → (fault ≢ NoMemory → (bound < old.laid + (length news + 1)) × (fault ≡ TooManyTokens t.place (old.laid + (length news + 1)))) → FailsAt table bound t old fault
 object_too_long table bound t old d fault hide made news u g k e f n start whole h =
     let p = f n in
     subst (λ x. Expands table bound start whole (refused x)) (sym p.1)
-    (object_too_many table bound start whole old.laid old.level.done old.level.ahead made news t hide old.calls d h u g k e p.0)
+    (object_too_many table bound start whole old.laid old.buffer.done old.done old.buffer.ahead made news old.buffer.more t hide old.calls d h u g k e p.0)
 
 -- a call that a name begins
 pub record Begun (t : Token) (old : State) (d : Definition) (ps : List (List ℕ)) (o : Token) (mid : List Token) : Type 0 where
   pub parameters : d.parameters ≡ Some ps
-  pub begins : begins_call old.level.ahead ≡ true
-  pub opened : old.level.ahead ≡ o ∷ mid
+  pub begins : begins_call old.buffer.ahead ≡ true
+  pub opened : old.buffer.ahead ≡ o ∷ mid
 
 one_more : (n : ℕ) → suc n ≡ n + 1
 one_more n = omega arith
 
-pub takes_call : (table : Table) (bound : ℕ) (t : Token) (old new : State) (call : Call) (ps : List (List ℕ)) (o : Token) (mid : List Token) (b : Bracketed)
-    → definition_at table t ≡ Some (macro_in call) → Begun t old (macro_in call) ps o mid → bracketed 0 mid ≡ Some b
-    → arguments_of (length ps) (macro_in call).variadic b.inner ≡ Some call.raw → call.name ≡ t → call.hide ≡ with_name t.text (common t.hide b.closing.hide)
-    → call.expanded ≡ [] → call.outer.done ≡ old.level.done → call.outer.ahead ≡ b.behind → Proceeds table bound old.laid call old.calls new
-    → Takes table bound t old new
-takes_call table bound t old new call ps o mid b def begun br args name hide none done ahead p = record {
-  keeps = λ start whole h. p.keeps start whole
-      (in_called table bound start whole old.laid old.level.ahead call old.calls ps b
-      (subst (λ x. IsOn table bound start whole old.laid x (call.name ∷ old.level.ahead) old.calls) (sym done)
-      (subst (λ x. IsOn table bound start whole old.laid old.level.done (x ∷ old.level.ahead) old.calls) (sym name) h))
-      (use_call table call.name o old.level.ahead mid (macro_in call) ps b (subst (λ x. definition_at table x ≡ Some (macro_in call)) (sym name) def)
-      begun.parameters begun.begins begun.opened br)
-      ahead (subst (λ x. call.hide ≡ with_name x.text (common x.hide b.closing.hide)) (sym name) hide) args none);
-  less = call_less;
+-- the call that is made of a name, whose arguments are cut off behind its opening bracket
+pub record Made (t : Token) (old : State) (ps : List (List ℕ)) (o : Token) (passed cut : Spread) (hide : List (List ℕ)) (call : Call) : Type 0 where
+  pub begun : Begun t old (macro_in call) ps o passed.ahead
+  pub outermost : passed.done ≡ old.buffer.done
+  pub more : passed.more ≡ old.buffer.more
+  pub is_cut : IsCut (length ps) (macro_in call).variadic passed cut hide call.arguments
+  pub name : call.name ≡ t
+  pub hides : call.hide ≡ with_name t.text (common t.hide hide)
+  pub raw : call.raw ≡ []
+  pub expanded : call.expanded ≡ []
+  pub done : call.done ≡ old.done
+
+in_made : (table : Table) (bound : ℕ) (t : Token) (old : State) (ps : List (List ℕ)) (o : Token) (passed cut : Spread) (hide : List (List ℕ)) (call : Call)
+    → definition_at table t ≡ Some (macro_in call) → Made t old ps o passed cut hide call → (start : ℕ) (whole : List Token) → IsBefore table bound t start whole old
+    → IsIn table bound start whole old.laid cut.done cut.ahead cut.more call old.calls
+in_made table bound t old ps o passed cut hide call def m start whole h =
+    let on : IsOn table bound start whole old.laid old.buffer.done old.done (t ∷ old.buffer.ahead) old.buffer.more old.calls = h in
+    let b = m.is_cut.brackets in
+    subst (λ x. IsIn table bound start whole old.laid x cut.ahead cut.more call old.calls) (sym (m.is_cut.done ∙ m.outermost))
+    (in_called table bound start whole old.laid old.buffer.ahead old.buffer.done cut.ahead cut.more old.buffer.more m.is_cut.raw call old.calls ps b
+    (subst (λ x. IsOn table bound start whole old.laid old.buffer.done x (call.name ∷ old.buffer.ahead) old.buffer.more old.calls) (sym m.done)
+    (subst (λ x. IsOn table bound start whole old.laid old.buffer.done old.done (x ∷ old.buffer.ahead) old.buffer.more old.calls) (sym m.name) on))
+    (use_call table call.name o old.buffer.ahead passed.ahead (macro_in call) ps b (subst (λ x. definition_at table x ≡ Some (macro_in call)) (sym m.name) def)
+    m.begun.parameters m.begun.begins m.begun.opened m.is_cut.found)
+    (m.hides ∙ (ap (λ x. with_name t.text (common t.hide x)) m.is_cut.hides ∙ ap (λ (x : Token). with_name x.text (common x.hide b.closing.hide)) (sym m.name)))
+    m.is_cut.split m.is_cut.counted m.raw m.expanded (m.is_cut.cut ∙ ap (λ x. m.is_cut.raw ++ b.behind ∷ x) m.more))
+
+pub takes_call : (table : Table) (bound : ℕ) (t : Token) (old new : State) (ps : List (List ℕ)) (o : Token) (passed cut : Spread) (hide : List (List ℕ)) (call : Call)
+    → definition_at table t ≡ Some (macro_in call) → Made t old ps o passed cut hide call → Proceeds table bound old.laid cut call old.calls new → Takes table bound t old new
+takes_call table bound t old new ps o passed cut hide call def m p = record {
+  keeps = λ start whole h. p.keeps start whole (in_made table bound t old ps o passed cut hide call def m start whole h);
+  less = λ start whole h.
+      let less = p.less start whole (in_made table bound t old ps o passed cut hide call def m start whole h) in
+      let b = m.is_cut.brackets in
+      let old_length : length old.buffer.ahead ≡ length passed.ahead + 1 = ap length m.begun.opened ∙ one_more (length passed.ahead) in
+      let inner = bracketed_length 0 passed.ahead b m.is_cut.found in
+      let weight = arguments_weight (length ps) (macro_in call).variadic b.inner m.is_cut.raw m.is_cut.split in
+      let parts : weights (cut.ahead ∷ cut.more) ≡ weights m.is_cut.raw + weights (b.behind ∷ old.buffer.more) =
+      ap weights (m.is_cut.cut ∙ ap (λ x. m.is_cut.raw ++ b.behind ∷ x) m.more) ∙ weights-append m.is_cut.raw (b.behind ∷ old.buffer.more) in
+      omega (arith, less, old_length, inner, weight, parts);
   within = p.within;
 }
-  where
-    call_less : work bound new.laid new.level.ahead new.calls < work bound old.laid (t ∷ old.level.ahead) old.calls
-    call_less =
-        let begun_at : weights (drop (length call.expanded) call.raw) ≡ weights call.raw = ap (λ x. weights (drop (length x) call.raw)) none in
-        let less = p.less in
-        let ahead_length : length call.outer.ahead ≡ length b.behind = ap length ahead in
-        let old_length : length old.level.ahead ≡ length mid + 1 = ap length begun.opened ∙ one_more (length mid) in
-        let inner = bracketed_length 0 mid b br in
-        let weight = arguments_weight (length ps) (macro_in call).variadic b.inner call.raw args in
-        omega (arith, begun_at, less, ahead_length, old_length, inner, weight)
 
 pub call_unclosed : (table : Table) (bound : ℕ) (t : Token) (old : State) (d : Definition) (ps : List (List ℕ)) (o : Token) (mid : List Token)
     → definition_at table t ≡ Some d → Begun t old d ps o mid → bracketed 0 mid ≡ None → FailsAt table bound t old (UnclosedCall t.place)
 call_unclosed table bound t old d ps o mid def begun br n start whole h =
-    on_unclosed table bound start whole old.laid old.level.done old.level.ahead t old.calls h
-    (use_unclosed table t o old.level.ahead mid d ps def begun.parameters begun.begins begun.opened br)
+    on_unclosed table bound start whole old.laid old.buffer.done old.done old.buffer.ahead old.buffer.more t old.calls h
+    (use_unclosed table t o old.buffer.ahead mid d ps def begun.parameters begun.begins begun.opened br)
 
 pub call_miscounted : (table : Table) (bound : ℕ) (t : Token) (old : State) (d : Definition) (ps : List (List ℕ)) (o : Token) (mid : List Token) (b : Bracketed)
     → definition_at table t ≡ Some d → Begun t old d ps o mid → bracketed 0 mid ≡ Some b → arguments_of (length ps) d.variadic b.inner ≡ None
     → FailsAt table bound t old (ArgumentCount t.place)
 call_miscounted table bound t old d ps o mid b def begun br args n start whole h =
-    on_miscounted table bound start whole old.laid old.level.done old.level.ahead t old.calls d ps b h
-    (use_call table t o old.level.ahead mid d ps b def begun.parameters begun.begins begun.opened br) args
+    on_miscounted table bound start whole old.laid old.buffer.done old.done old.buffer.ahead old.buffer.more t old.calls d ps b h
+    (use_call table t o old.buffer.ahead mid d ps b def begun.parameters begun.begins begun.opened br) args
 
-pub call_fails : (table : Table) (bound : ℕ) (t : Token) (old : State) (fault : MacroFault) (call : Call) (ps : List (List ℕ)) (o : Token) (mid : List Token) (b : Bracketed)
-    → definition_at table t ≡ Some (macro_in call) → Begun t old (macro_in call) ps o mid → bracketed 0 mid ≡ Some b
-    → arguments_of (length ps) (macro_in call).variadic b.inner ≡ Some call.raw → call.name ≡ t → call.hide ≡ with_name t.text (common t.hide b.closing.hide)
-    → call.expanded ≡ [] → call.outer.done ≡ old.level.done → call.outer.ahead ≡ b.behind → FailsIn table bound old.laid call old.calls fault
+pub call_fails : (table : Table) (bound : ℕ) (t : Token) (old : State) (fault : MacroFault) (ps : List (List ℕ)) (o : Token) (passed cut : Spread) (hide : List (List ℕ))
+    (call : Call) → definition_at table t ≡ Some (macro_in call) → Made t old ps o passed cut hide call → FailsIn table bound old.laid cut call old.calls fault
     → FailsAt table bound t old fault
-call_fails table bound t old fault call ps o mid b def begun br args name hide none done ahead f n start whole h =
-    f n start whole
-    (in_called table bound start whole old.laid old.level.ahead call old.calls ps b
-    (subst (λ x. IsOn table bound start whole old.laid x (call.name ∷ old.level.ahead) old.calls) (sym done)
-    (subst (λ x. IsOn table bound start whole old.laid old.level.done (x ∷ old.level.ahead) old.calls) (sym name) h))
-    (use_call table call.name o old.level.ahead mid (macro_in call) ps b (subst (λ x. definition_at table x ≡ Some (macro_in call)) (sym name) def)
-    begun.parameters begun.begins begun.opened br)
-    ahead (subst (λ x. call.hide ≡ with_name x.text (common x.hide b.closing.hide)) (sym name) hide) args none)
+call_fails table bound t old fault ps o passed cut hide call def m f n start whole h =
+    f n start whole (in_made table bound t old ps o passed cut hide call def m start whole h)
 
 -- a step that takes a token, and one that goes on with a call
-pub step_takes : (table : Table) (bound : ℕ) (t : Token) (old taken new : State) → taken.laid ≡ old.laid → taken.level.done ≡ old.level.done
-    → old.level.ahead ≡ t ∷ taken.level.ahead → taken.calls ≡ old.calls → Takes table bound t taken new → StepIs table bound old (Goes new)
-step_takes table bound t old taken new a b c d p = record {
-  keeps = λ start whole h. p.keeps start whole
-      (subst (λ n. IsOn table bound start whole n taken.level.done (t ∷ taken.level.ahead) taken.calls) (sym a)
-      (subst (λ x. IsOn table bound start whole old.laid x (t ∷ taken.level.ahead) taken.calls) (sym b)
-      (subst (λ x. IsOn table bound start whole old.laid old.level.done x taken.calls) c
-      (subst (λ x. IsOn table bound start whole old.laid old.level.done old.level.ahead x) (sym d) h))));
-  less = subst (λ n. work bound new.laid new.level.ahead new.calls < n)
-      (ap (λ n. work bound n (t ∷ taken.level.ahead) taken.calls) a ∙ (ap (λ x. work bound old.laid x taken.calls) (sym c) ∙ ap (work bound old.laid old.level.ahead) d))
-      p.less;
+taken_on : (table : Table) (bound : ℕ) (t : Token) (old taken : State) (start : ℕ) (whole : List Token) → taken.laid ≡ old.laid → taken.buffer.done ≡ old.buffer.done
+    → taken.done ≡ old.done → old.buffer.ahead ≡ t ∷ taken.buffer.ahead → taken.buffer.more ≡ old.buffer.more → taken.calls ≡ old.calls
+    → IsAt table bound start whole old → IsBefore table bound t start whole taken
+taken_on table bound t old taken start whole a b c d e f h =
+    subst (λ n. IsOn table bound start whole n taken.buffer.done taken.done (t ∷ taken.buffer.ahead) taken.buffer.more taken.calls) (sym a)
+    (subst (λ x. IsOn table bound start whole old.laid x taken.done (t ∷ taken.buffer.ahead) taken.buffer.more taken.calls) (sym b)
+    (subst (λ x. IsOn table bound start whole old.laid old.buffer.done x (t ∷ taken.buffer.ahead) taken.buffer.more taken.calls) (sym c)
+    (subst (λ x. IsOn table bound start whole old.laid old.buffer.done old.done x taken.buffer.more taken.calls) d
+    (subst (λ x. IsOn table bound start whole old.laid old.buffer.done old.done old.buffer.ahead x taken.calls) (sym e)
+    (subst (λ x. IsOn table bound start whole old.laid old.buffer.done old.done old.buffer.ahead old.buffer.more x) (sym f) h)))))
+
+pub step_takes : (table : Table) (bound : ℕ) (t : Token) (old taken new : State) → taken.laid ≡ old.laid → taken.buffer.done ≡ old.buffer.done → taken.done ≡ old.done
+    → old.buffer.ahead ≡ t ∷ taken.buffer.ahead → taken.buffer.more ≡ old.buffer.more → taken.calls ≡ old.calls → Takes table bound t taken new
+    → StepIs table bound old (Goes new)
+step_takes table bound t old taken new a b c d e f p = record {
+  keeps = λ start whole h. p.keeps start whole (taken_on table bound t old taken start whole a b c d e f h);
+  less = λ start whole h. subst (λ n. work bound new.laid new.buffer.ahead new.buffer.more < n)
+      (ap (λ n. work bound n (t ∷ taken.buffer.ahead) taken.buffer.more) a
+      ∙ (ap (λ x. work bound old.laid x taken.buffer.more) (sym d) ∙ ap (work bound old.laid old.buffer.ahead) e))
+      (p.less start whole (taken_on table bound t old taken start whole a b c d e f h));
   within = p.within;
 }
 
-pub step_fails : (table : Table) (bound : ℕ) (t : Token) (old taken : State) (fault : MacroFault) → taken.laid ≡ old.laid → taken.level.done ≡ old.level.done
-    → old.level.ahead ≡ t ∷ taken.level.ahead → taken.calls ≡ old.calls → FailsAt table bound t taken fault → FailsOn table bound old fault
-step_fails table bound t old taken fault a b c d f n start whole h =
-    f n start whole
-    (subst (λ n. IsOn table bound start whole n taken.level.done (t ∷ taken.level.ahead) taken.calls) (sym a)
-    (subst (λ x. IsOn table bound start whole old.laid x (t ∷ taken.level.ahead) taken.calls) (sym b)
-    (subst (λ x. IsOn table bound start whole old.laid old.level.done x taken.calls) c
-    (subst (λ x. IsOn table bound start whole old.laid old.level.done old.level.ahead x) (sym d) h))))
+ended_on : (table : Table) (bound : ℕ) (old : State) (call : Call) (calls : List Call) (start : ℕ) (whole : List Token) → old.buffer.ahead ≡ [] → old.calls ≡ call ∷ calls
+    → IsAt table bound start whole old → IsOn table bound start whole old.laid old.buffer.done old.done [] old.buffer.more (call ∷ calls)
+ended_on table bound old call calls start whole a c h =
+    subst (λ x. IsOn table bound start whole old.laid old.buffer.done old.done x old.buffer.more (call ∷ calls)) a
+    (subst (λ x. IsOn table bound start whole old.laid old.buffer.done old.done old.buffer.ahead old.buffer.more x) c h)
 
-pub step_resumes : (table : Table) (bound : ℕ) (old new : State) (call : Call) (calls : List Call) → old.level.ahead ≡ [] → old.calls ≡ call ∷ calls
-    → Resumes table bound old.laid old.level.done call calls new → StepIs table bound old (Goes new)
-step_resumes table bound old new call calls a c p = record {
-  keeps = λ start whole h. p.keeps start whole
-      (subst (λ x. IsOn table bound start whole old.laid old.level.done x (call ∷ calls)) a
-      (subst (λ x. IsOn table bound start whole old.laid old.level.done old.level.ahead x) c h));
-  less = subst (λ n. work bound new.laid new.level.ahead new.calls < n)
-      (ap (λ x. work bound old.laid x (call ∷ calls)) (sym a) ∙ ap (work bound old.laid old.level.ahead) (sym c)) p.less;
-  within = p.within;
-}
+pub step_resumes : (table : Table) (bound : ℕ) (old new : State) (b : Spread) (call : Call) (calls : List Call) → b ≡ old.buffer → old.buffer.ahead ≡ [] → old.calls ≡ call ∷ calls
+    → Resumes table bound old.laid b old.done call calls new → StepIs table bound old (Goes new)
+step_resumes table bound old new b call calls s a c p' =
+    let p : Resumes table bound old.laid old.buffer old.done call calls new = subst (λ x. Resumes table bound old.laid x old.done call calls new) s p' in
+    record {
+      keeps = λ start whole h. p.keeps start whole (ended_on table bound old call calls start whole a c h);
+      less = λ start whole h. subst (λ x. work bound new.laid new.buffer.ahead new.buffer.more < work bound old.laid x old.buffer.more) (sym a)
+          (p.less start whole (ended_on table bound old call calls start whole a c h));
+      within = p.within;
+    }
 
-pub step_resume_fails : (table : Table) (bound : ℕ) (old : State) (fault : MacroFault) (call : Call) (calls : List Call) → old.level.ahead ≡ [] → old.calls ≡ call ∷ calls
-    → FailsBehind table bound old.laid old.level.done call calls fault → FailsOn table bound old fault
-step_resume_fails table bound old fault call calls a c f n start whole h =
-    f n start whole
-    (subst (λ x. IsOn table bound start whole old.laid old.level.done x (call ∷ calls)) a
-    (subst (λ x. IsOn table bound start whole old.laid old.level.done old.level.ahead x) c h))
-
-pub step_ends : (table : Table) (bound : ℕ) (old : State) (list : TokenList) → old.laid ≤ bound → old.level.ahead ≡ [] → old.calls ≡ []
-    → tokens list ≡ old.level.done → StepIs table bound old (Ends list old.laid)
-step_ends table bound old list le a c e = (
+pub step_ends : (table : Table) (bound : ℕ) (old : State) (b : Spread) (list : TokenList) → old.laid ≤ bound → b ≡ old.buffer → old.buffer.ahead ≡ [] → old.calls ≡ []
+    → (b.more ≡ [] → tokens list ≡ b.done ++ b.ahead) → StepIs table bound old (Ends list old.laid)
+step_ends table bound old b list le s a c e = (
   le,
-  λ start whole h. subst (λ ts. Expands table bound start whole (expansion.expanded ts old.laid)) (sym e)
-      (on_end table bound start whole old.laid old.level.done
-      (subst (λ x. IsOn table bound start whole old.laid old.level.done x []) a (subst (λ x. IsOn table bound start whole old.laid old.level.done old.level.ahead x) c h))),
+  λ start whole h.
+      let on : IsOn table bound start whole old.laid old.buffer.done old.done [] old.buffer.more [] =
+      subst (λ x. IsOn table bound start whole old.laid old.buffer.done old.done x old.buffer.more []) a
+      (subst (λ x. IsOn table bound start whole old.laid old.buffer.done old.done old.buffer.ahead old.buffer.more x) c h) in
+      let none : b.more ≡ [] = ap (λ (x : Spread). x.more) s ∙ on_last table bound start whole old.laid old.buffer.done old.done [] old.buffer.more on in
+      let same : tokens list ≡ old.buffer.done =
+      e none ∙ (ap (λ (x : Spread). x.done ++ x.ahead) s ∙ (ap (λ ts. old.buffer.done ++ ts) a ∙ append-nil old.buffer.done)) in
+      subst (λ ts. Expands table bound start whole (expansion.expanded ts old.laid)) (sym same)
+      (on_end table bound start whole old.laid old.buffer.done old.done old.buffer.more on),
 )
-
--- the tokens of a list that is done
-pub list_done : (old new : Standing) (list : TokenList) → tokens list ≡ new.done ++ new.ahead → new ≡ old → old.ahead ≡ [] → tokens list ≡ old.done
-list_done old new list e n a = e ∙ (ap (λ (s : Standing). s.done ++ s.ahead) n ∙ (ap (λ ts. old.done ++ ts) a ∙ append-nil old.done))
 
 -- the parts of the arguments as the code has them
 pub glued_along : (d : Definition) (raw raw' expanded expanded' : List (List Token)) (made : Option (List Token)) → raw ≡ raw' → expanded ≡ expanded'
@@ -283,8 +349,8 @@ hides hide both names others names' others' name e f g h =
     e ∙ ap (with_name name) (f ∙ (ap (λ x. common x others') g ∙ ap (common names) h))
 
 -- nothing is done yet
-pub on_begun : (table : Table) (bound start : ℕ) (whole done ahead : List Token) (calls : List Call) → done ≡ [] → ahead ≡ whole → calls ≡ []
-    → IsOn table bound start whole start done ahead calls
-on_begun table bound start whole done ahead calls a b c =
-    subst (λ x. IsOn table bound start whole start x ahead calls) (sym a)
-    (subst (λ x. IsOn table bound start whole start [] x calls) (sym b) (subst (λ x. IsOn table bound start whole start [] whole x) (sym c) (on_start table bound start whole)))
+pub on_begun : (table : Table) (bound start : ℕ) (whole done : List Token) (b : Spread) (calls : List Call) → b ≡ record { done = []; ahead = whole; more = [] } → calls ≡ []
+    → IsOn table bound start whole start b.done done b.ahead b.more calls
+on_begun table bound start whole done b calls e c =
+    subst (λ x. IsOn table bound start whole start b.done done b.ahead b.more x) (sym c)
+    (subst (λ (x : Spread). IsOn table bound start whole start x.done done x.ahead x.more []) (sym e) (on_start table bound start whole done))

@@ -81,9 +81,9 @@ insert_is k s (e ∷ es) =
     by true t h = ap (λ n. (n, definition_of s) ∷ map entry es) ((bytes_eq-Decides e.0.items k.items).0 t)
     by false t h = ap (λ t'. entry e ∷ t') h
 
-pub put : (k : Key) (s : Stored) (name : List ℕ) (d : Definition) (es new : List (Key × Stored)) (table : Table)
+pub defines : (k : Key) (s : Stored) (name : List ℕ) (d : Definition) (es new : List (Key × Stored)) (table : Table)
     → new ≡ insert_entry (λ a b. bytes_eq a.items b.items) es k s → k.items ≡ name → definition_of s ≡ d → map entry es ≡ table
     → map entry new ≡ defined name d table
-put k s name d es new table e f g v =
+defines k s name d es new table e f g v =
     ap (map entry) e ∙ (insert_is k s es ∙ (ap (λ n. defined n (definition_of s) (map entry es)) f
     ∙ (ap (λ x. defined name x (map entry es)) g ∙ ap (defined name d) v)))

@@ -8,6 +8,8 @@ pub mod Macros
 pub mod Made
 pub mod Parts
 pub mod Replacement
+pub mod Segments
 pub mod Steps
 pub mod Stored
 pub mod Uses
+pub mod Walks

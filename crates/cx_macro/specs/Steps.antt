@@ -1,5 +1,5 @@
--- Macro replacement step by step: a list that is being expanded, and the calls whose arguments are expanded first.
-use Rattle.std.specs.Prelude.{◌≡◌, ℕ, ◌+◌, ◌-◌, ◌*◌, ◌<◌, ◌≤◌, List, [], ◌∷◌, cond, None, Some, ◌≢◌, get_or, drop, length}
+-- Macro replacement step by step: a list that is being expanded, and the calls in it whose arguments are expanded first.
+use Rattle.std.specs.Prelude.{◌≡◌, ℕ, ◌+◌, ◌-◌, ◌*◌, ◌<◌, ◌≤◌, List, [], ◌∷◌, ◌++◌, cond, None, Some, ◌≢◌, get_or, drop, take, length}
 use Rattle.cx_tokens.specs.declared.token.Token.{Token}
 use Rattle.cx_tokens.specs.Nodes.{tokens}
 use Rattle.cx_macro.specs.declared.fault.MacroFault.{MacroFault}
@@ -14,7 +14,9 @@ use Rattle.cx_macro.specs.Arguments.{Bracketed, arguments_of}
 use Rattle.cx_macro.specs.Expansion.{ArgumentsOutcome, Expands, ExpandsEach, Outcome, behind_argument, behind_token, called, definition_at, expanded, line_of, refused, use_of, wanted_from}
 use Rattle.cx_macro.specs.Hiding.{common, with_name}
 use Rattle.cx_macro.specs.Macros.{Definition, Table}
+use Rattle.cx_macro.specs.Parts.{kept_of}
 use Rattle.cx_macro.specs.Replacement.{is_expanded, other}
+use Rattle.cx_macro.specs.Segments.{Spread}
 use Rattle.cx_macro.specs.Stored.{definition_of}
 
 -- an outcome behind tokens, and one behind arguments
@@ -33,77 +35,94 @@ pub record Leads (table : Table) (bound laid_first : ℕ) (list : List Token) (l
 abbrev pub macro_in : Call → Definition
 macro_in call = definition_of call.stored.now
 
--- the argument that is expanded next: nothing where it is not to be expanded
-abbrev pub next_argument : Call → List Token
-next_argument call = cond (is_expanded (macro_in call) (length call.expanded) other (macro_in call).body) (get_or call.raw (length call.expanded) []) []
+-- What is done of the list that calls stand in, of which the outermost stands in the list itself.
+abbrev pub done_in : List Call → List Token → List Token → List Token
+done_in [] outermost done = outermost
+done_in (call ∷ calls) outermost done = done
 
--- A call in a list, of whose arguments some are expanded, with so many tokens laid.
-pub record IsCall (table : Table) (bound laid_first : ℕ) (list : List Token) (call : Call) (laid : ℕ) : Type 0 where
+-- an argument as it is expanded: nothing where it is not to be
+abbrev pub wanted_argument : Definition → ℕ → List Token → List Token
+wanted_argument d i argument = cond (is_expanded d i other d.body) argument []
+
+-- A call in a list, of whose arguments some are expanded, with so many tokens laid: what is done of the list, and is ahead
+-- behind the call; and of how many arguments the tokens have been kept.
+pub record IsCall (table : Table) (bound laid_first : ℕ) (list : List Token) (call : Call) (kept : ℕ) (raw : List (List Token)) (done ahead : List Token) (laid : ℕ) : Type 0 where
   pub laid_before : ℕ
   pub rest : List Token
   pub parameters : List (List ℕ)
   pub brackets : Bracketed
-  pub leads : Leads table bound laid_first list laid_before call.outer.done (call.name ∷ rest)
+  pub leads : Leads table bound laid_first list laid_before done (call.name ∷ rest)
   pub is_called : use_of table call.name rest ≡ called (macro_in call) parameters brackets
-  pub behind : call.outer.ahead ≡ brackets.behind
+  pub behind : ahead ≡ brackets.behind
   pub hides : call.hide ≡ with_name call.name.text (common call.name.hide brackets.closing.hide)
-  pub split : arguments_of (length parameters) (macro_in call).variadic brackets.inner ≡ Some call.raw
-  pub each : (outcome : ArgumentsOutcome) → ExpandsEach table bound laid (wanted_from (macro_in call) (length call.expanded) (drop (length call.expanded) call.raw)) outcome
-      → ExpandsEach table bound laid_before (wanted_from (macro_in call) 0 call.raw) (behind_each call.expanded outcome)
+  pub split : arguments_of (length parameters) (macro_in call).variadic brackets.inner ≡ Some raw
+  pub counted : length raw ≡ call.arguments
+  pub kept_so_far : call.raw ≡ kept_of (macro_in call) 0 (take kept raw)
+  pub each : (outcome : ArgumentsOutcome) → ExpandsEach table bound laid (wanted_from (macro_in call) (length call.expanded) (drop (length call.expanded) raw)) outcome
+      → ExpandsEach table bound laid_before (wanted_from (macro_in call) 0 raw) (behind_each call.expanded outcome)
+
+-- A call waits for what comes of its next argument, whose expansion begins with so many tokens laid: the segments behind it are the
+-- arguments left, what is ahead behind the call, and the segments that the calls around it wait for.
+pub record Waits (table : Table) (bound : ℕ) (Around : ℕ → List Token → List (List Token) → Type 0) (call : Call) (around : List Call) (outermost : List Token)
+    (laid : ℕ) (list : List Token) (more : List (List Token)) : Type 0 where
+  pub laid_first : ℕ
+  pub outer : List Token
+  pub raw : List (List Token)
+  pub ahead : List Token
+  pub outer_more : List (List Token)
+  pub wait : Around laid_first outer outer_more
+  pub is_call : IsCall table bound laid_first outer call (length call.expanded + 1) raw (done_in around outermost call.done) ahead laid
+  pub begun : length call.expanded < call.arguments
+  pub argument : list ≡ wanted_argument (macro_in call) (length call.expanded) (get_or raw (length call.expanded) [])
+  pub segments : more ≡ drop (length call.expanded + 1) raw ++ ahead ∷ outer_more
 
 -- The calls, the innermost first, wait for what comes of a list whose expansion begins with so many tokens laid.
-abbrev pub Wait : Table → ℕ → ℕ → List Token → List Call → ℕ → List Token → Type 0
-Wait table bound start whole [] laid list = (laid ≡ start) × (list ≡ whole)
-Wait table bound start whole (call ∷ calls) laid list =
-    (laid_first : ℕ) × (outer : List Token) × Wait table bound start whole calls laid_first outer × IsCall table bound laid_first outer call laid
-    × (length call.expanded < length call.raw) × (list ≡ next_argument call)
+abbrev pub Wait : Table → ℕ → ℕ → List Token → List Call → List Token → ℕ → List Token → List (List Token) → Type 0
+Wait table bound start whole [] outermost laid list more = (laid ≡ start) × (list ≡ whole) × (more ≡ [])
+Wait table bound start whole (call ∷ calls) outermost laid list more =
+    Waits table bound (Wait table bound start whole calls outermost) call calls outermost laid list more
 
 -- What comes of the tokens ahead decides what comes of the whole.
-pub record IsOn (table : Table) (bound start : ℕ) (whole : List Token) (laid : ℕ) (done ahead : List Token) (calls : List Call) : Type 0 where
+pub record IsOn (table : Table) (bound start : ℕ) (whole : List Token) (laid : ℕ) (outermost done ahead : List Token) (more : List (List Token)) (calls : List Call) : Type 0 where
   pub laid_first : ℕ
   pub list : List Token
-  pub wait : Wait table bound start whole calls laid_first list
-  pub leads : Leads table bound laid_first list laid done ahead
+  pub wait : Wait table bound start whole calls outermost laid_first list more
+  pub leads : Leads table bound laid_first list laid (done_in calls outermost done) ahead
 
 -- The same of a call whose next argument has not been begun.
-pub record IsIn (table : Table) (bound start : ℕ) (whole : List Token) (laid : ℕ) (call : Call) (calls : List Call) : Type 0 where
+pub record IsIn (table : Table) (bound start : ℕ) (whole : List Token) (laid : ℕ) (outermost ahead : List Token) (more : List (List Token)) (call : Call) (calls : List Call) : Type 0 where
   pub laid_first : ℕ
   pub list : List Token
-  pub wait : Wait table bound start whole calls laid_first list
-  pub is_call : IsCall table bound laid_first list call laid
+  pub raw : List (List Token)
+  pub behind : List Token
+  pub outer_more : List (List Token)
+  pub wait : Wait table bound start whole calls outermost laid_first list outer_more
+  pub is_call : IsCall table bound laid_first list call (length call.expanded) raw (done_in calls outermost call.done) behind laid
+  pub segments : ahead ∷ more ≡ drop (length call.expanded) raw ++ behind ∷ outer_more
 
--- the work that is left: each token that may still be laid, each token ahead, and each argument still to begin
+-- the work that is left: each token that may still be laid, each token ahead, and each segment
 abbrev pub weights : List (List Token) → ℕ
 weights [] = 0
-weights (argument ∷ rest) = 2 * length argument + 1 + weights rest
+weights (segment ∷ rest) = 2 * length segment + 1 + weights rest
 
-abbrev pub weight_of : Call → ℕ
-weight_of call = 2 * length call.outer.ahead + weights (drop (length call.expanded) call.raw)
+abbrev pub work : ℕ → ℕ → List Token → List (List Token) → ℕ
+work bound laid ahead more = 2 * (bound - laid) + weights (ahead ∷ more)
 
-abbrev pub suspended : Call → ℕ
-suspended call = 2 * length call.outer.ahead + weights (drop (length call.expanded + 1) call.raw)
-
-abbrev pub waiting : List Call → ℕ
-waiting [] = 0
-waiting (call ∷ calls) = suspended call + waiting calls
-
-abbrev pub work : ℕ → ℕ → List Token → List Call → ℕ
-work bound laid ahead calls = 2 * (bound - laid) + (2 * length ahead + waiting calls)
-
-abbrev pub work_in : ℕ → ℕ → Call → List Call → ℕ
-work_in bound laid call calls = 2 * (bound - laid) + (weight_of call + waiting calls)
+-- the same where the next argument of a call has not been begun
+abbrev pub work_in : ℕ → ℕ → List Token → List (List Token) → ℕ
+work_in bound laid ahead more = work bound laid ahead more + 1
 
 -- the same of a state, and of one that a token has been taken from
 abbrev pub IsAt : Table → ℕ → ℕ → List Token → State → Type 0
-IsAt table bound start whole s = IsOn table bound start whole s.laid s.level.done s.level.ahead s.calls
+IsAt table bound start whole s = IsOn table bound start whole s.laid s.buffer.done s.done s.buffer.ahead s.buffer.more s.calls
 
 abbrev pub IsBefore : Table → ℕ → Token → ℕ → List Token → State → Type 0
-IsBefore table bound t start whole s = IsOn table bound start whole s.laid s.level.done (t ∷ s.level.ahead) s.calls
+IsBefore table bound t start whole s = IsOn table bound start whole s.laid s.buffer.done s.done (t ∷ s.buffer.ahead) s.buffer.more s.calls
 
 -- A step leads from what was known to a state with less work left.
 pub record Leads_to (table : Table) (bound : ℕ) (known : ℕ → List Token → Type 0) (before : ℕ) (new : State) : Type 0 where
   pub keeps : (start : ℕ) (whole : List Token) → known start whole → IsAt table bound start whole new
-  pub less : work bound new.laid new.level.ahead new.calls < before
+  pub less : (start : ℕ) (whole : List Token) → known start whole → work bound new.laid new.buffer.ahead new.buffer.more < before
   pub within : new.laid ≤ bound
 
 -- A step meets a fault: where it is no want of memory, it is what comes of the whole.
@@ -112,30 +131,32 @@ Fails table bound known fault = fault ≢ NoMemory → (start : ℕ) (whole : Li
 
 -- the next token is taken
 abbrev pub Takes : Table → ℕ → Token → State → State → Type 0
-Takes table bound t old new = Leads_to table bound (λ start whole. IsBefore table bound t start whole old) (work bound old.laid (t ∷ old.level.ahead) old.calls) new
+Takes table bound t old new =
+    Leads_to table bound (λ start whole. IsBefore table bound t start whole old) (work bound old.laid (t ∷ old.buffer.ahead) old.buffer.more) new
 
 abbrev pub FailsAt : Table → ℕ → Token → State → MacroFault → Type 0
 FailsAt table bound t old fault = Fails table bound (λ start whole. IsBefore table bound t start whole old) fault
 
--- a call goes on
-abbrev pub Proceeds : Table → ℕ → ℕ → Call → List Call → State → Type 0
-Proceeds table bound laid call calls new = Leads_to table bound (λ start whole. IsIn table bound start whole laid call calls) (work_in bound laid call calls) new
+-- a call goes on, before these segments
+abbrev pub Proceeds : Table → ℕ → ℕ → Spread → Call → List Call → State → Type 0
+Proceeds table bound laid b call calls new =
+    Leads_to table bound (λ start whole. IsIn table bound start whole laid b.done b.ahead b.more call calls) (work_in bound laid b.ahead b.more) new
 
-abbrev pub FailsIn : Table → ℕ → ℕ → Call → List Call → MacroFault → Type 0
-FailsIn table bound laid call calls fault = Fails table bound (λ start whole. IsIn table bound start whole laid call calls) fault
+abbrev pub FailsIn : Table → ℕ → ℕ → Spread → Call → List Call → MacroFault → Type 0
+FailsIn table bound laid b call calls fault = Fails table bound (λ start whole. IsIn table bound start whole laid b.done b.ahead b.more call calls) fault
 
 -- an argument ends
-abbrev pub Resumes : Table → ℕ → ℕ → List Token → Call → List Call → State → Type 0
-Resumes table bound laid done call calls new =
-    Leads_to table bound (λ start whole. IsOn table bound start whole laid done [] (call ∷ calls)) (work bound laid [] (call ∷ calls)) new
+abbrev pub Resumes : Table → ℕ → ℕ → Spread → List Token → Call → List Call → State → Type 0
+Resumes table bound laid b done call calls new =
+    Leads_to table bound (λ start whole. IsOn table bound start whole laid b.done done [] b.more (call ∷ calls)) (work bound laid [] b.more) new
 
-abbrev pub FailsBehind : Table → ℕ → ℕ → List Token → Call → List Call → MacroFault → Type 0
-FailsBehind table bound laid done call calls fault = Fails table bound (λ start whole. IsOn table bound start whole laid done [] (call ∷ calls)) fault
+abbrev pub FailsBehind : Table → ℕ → ℕ → Spread → List Token → Call → List Call → MacroFault → Type 0
+FailsBehind table bound laid b done call calls fault = Fails table bound (λ start whole. IsOn table bound start whole laid b.done done [] b.more (call ∷ calls)) fault
 
 -- what a step of a state comes to
 abbrev pub StepIs : Table → ℕ → State → Step → Type 0
 StepIs table bound old (Goes new) =
-    Leads_to table bound (λ start whole. IsAt table bound start whole old) (work bound old.laid old.level.ahead old.calls) new
+    Leads_to table bound (λ start whole. IsAt table bound start whole old) (work bound old.laid old.buffer.ahead old.buffer.more) new
 StepIs table bound old (Ends done laid) =
     (laid ≤ bound) × ((start : ℕ) (whole : List Token) → IsAt table bound start whole old → Expands table bound start whole (expanded (tokens done) laid))
 

@@ -1,12 +1,14 @@
 //! Calls of function-like macros and their arguments (C11 6.10.3, paragraphs 4 and 10 to 12).
-ghost use Rattle.std.specs.Prelude.{◌≡◌, [], ◌∷◌, IfOk, MatchOption, None, Some, ◌==◌, ◌&&◌};
+ghost use Rattle.std.specs.Prelude.{◌≡◌, ◌+◌, ◌<◌, [], ◌∷◌, ◌⊎◌, true, IfOk, MatchOption, None, Some, length, List as list, ◌==◌, ◌&&◌};
+ghost use Rattle.cx_tokens.specs.declared.token.Token.{Token as token_type};
 ghost use Rattle.cx_macro.specs.Arguments as meaning;
 ghost use Rattle.cx_macro.specs.Calls.{deeper};
+ghost use Rattle.cx_macro.specs.Segments.{Cuts, CutsText, left_behind};
 
-use crate::level::Level;
 use crate::marks::{is_close, is_comma, is_open};
-use crate::stack::Stack;
-use cx_base::{List, NoMemory};
+use crate::segment::Segment;
+use crate::walk::Walk;
+use cx_base::NoMemory;
 use cx_tokens::Token;
 use std::alloc::Global;
 
@@ -39,130 +41,141 @@ fn parts(depth: usize, token: &Token) -> bool
     depth == 0 && is_comma(token)
 }
 
-/// Takes what stands behind an opening bracket up to its closing one, where it has one.
-pub(crate) fn bracketed(
-    alloc: Global,
-    level: &mut Level,
-) -> Result<Option<(Vec<Token>, Token)>, NoMemory>
-    ensures found { IfOk result (λ found. MatchOption found (meaning.bracketed 0 level.old.ahead ≡ None) (λ x. meaning.bracketed 0 level.old.ahead ≡ Some (record { inner = x.0.items; closing = x.1; behind = level.new.ahead }))) }
-    ensures done { level.new.done ≡ level.old.done }
+/// How many tokens stand between an opening bracket that was passed and its closing one, and that
+/// one, where it is there.
+pub(crate) fn bracketed<'a>(text: Walk<'a>) -> Result<Option<(usize, &'a Token)>, NoMemory>
+    ensures { IfOk result (λ found. MatchOption found (meaning.bracketed 0 text.entry ≡ None) (λ x. (b : meaning.Bracketed) × (meaning.bracketed 0 text.entry ≡ Some b) × (x.0 ≡ length b.inner) × (x.1.now ≡ b.closing))) }
 {
-    let mut inner = Vec::new(alloc);
+    let mut text = text;
+    let mut inner: usize = 0;
     let mut depth = 0;
-    while let Some(token) = level.pop() {
-        if closes(depth, &token) {
+    while let Some(token) = text.next() {
+        if closes(depth, token) {
             return Ok(Some((inner, token)));
         }
-        depth = deeper(depth, &token)?;
-        inner.push(token)?;
+        depth = deeper(depth, token)?;
+        inner = one_more(inner)?;
     }
     Ok(None)
 }
 
-/// The tokens up to the first comma outside of brackets, and those behind it, where it is there.
-fn cut_at_comma(
-    alloc: Global,
-    tokens: Stack<Token>,
-) -> Result<(Vec<Token>, Option<Stack<Token>>), NoMemory>
-    ensures { IfOk result (λ x. meaning.cut_at_comma 0 tokens ≡ record { front = x.0.items; behind = x.1 }) }
+/// A number and one more.
+fn one_more(count: usize) -> Result<usize, NoMemory>
+    ensures { IfOk result (λ n. n ≡ count + 1) }
 {
-    let mut tokens = tokens;
-    let mut front = Vec::new(alloc);
+    count.checked_add(1).ok_or(NoMemory)
+}
+
+/// How many tokens stand before the first comma outside of brackets, and those behind it, where it
+/// is there.
+fn cut_at_comma<'a>(text: Walk<'a>) -> Result<(usize, Option<Walk<'a>>), NoMemory>
+    ensures { IfOk result (λ x. (front : list token_type) × (meaning.cut_at_comma 0 text.entry ≡ record { front = front; behind = x.1 }) × (x.0 ≡ length front)) }
+{
+    let mut text = text;
+    let mut front: usize = 0;
     let mut depth = 0;
-    while let Some(token) = tokens.pop() {
-        if parts(depth, &token) {
-            return Ok((front, Some(tokens)));
+    while let Some(token) = text.next() {
+        if parts(depth, token) {
+            return Ok((front, Some(text)));
         }
-        depth = deeper(depth, &token)?;
-        front.push(token)?;
+        depth = deeper(depth, token)?;
+        front = one_more(front)?;
     }
     Ok((front, None))
 }
 
-/// What the named parameters are given, and what stands behind the comma behind that.
+/// The segments of what the named parameters are given, and what stands behind the comma behind
+/// that.
 #[derive(Drop)]
-struct Named {
-    arguments: List<List<Token>>,
-    behind: Option<Stack<Token>>,
+struct Named<'a> {
+    segments: Vec<Segment>,
+    behind: Option<Walk<'a>>,
 }
 
 /// As many arguments as parameters have names.
-fn named_arguments(
+fn named_arguments<'a>(
     alloc: Global,
     count: usize,
-    text: Option<Stack<Token>>,
-) -> Result<Option<Named>, NoMemory>
-    ensures { IfOk result (λ found. MatchOption found (meaning.named_arguments count text ≡ None) (λ x. meaning.named_arguments count text ≡ Some (record { arguments = x.arguments; behind = x.behind }))) }
+    text: Walk<'a>,
+) -> Result<Option<Named<'a>>, NoMemory>
+    ensures { IfOk result (λ found. MatchOption found (meaning.named_arguments count (Some text.entry) ≡ None) (λ x. (raw : list (list token_type)) × (meaning.named_arguments count (Some text.entry) ≡ Some (record { arguments = raw; behind = x.behind })) × CutsText x.segments.items text.entry raw x.behind)) }
 {
-    let mut arguments = List::new(alloc);
-    let mut behind = text;
+    let mut segments = Vec::new(alloc);
+    let mut behind = Some(text);
     let mut left = count;
     while left > 0 {
-        let Some(tokens) = behind else {
+        let Some(text) = behind else {
             return Ok(None);
         };
-        let (argument, rest) = cut_at_comma(alloc, tokens)?;
-        arguments.push(List::from_vec(argument))?;
+        let (tokens, rest) = cut_at_comma(text)?;
+        segments.push(Segment {
+            tokens,
+            is_ended: true,
+        })?;
         behind = rest;
         left -= 1;
     }
-    Ok(Some(Named { arguments, behind }))
+    Ok(Some(Named { segments, behind }))
 }
 
-/// The text between a call's brackets, where it has arguments.
-fn text_between(count: usize, inner: Vec<Token>) -> Option<Stack<Token>>
-    ensures { result ≡ meaning.text_between count inner.items }
+/// How many tokens there are.
+fn count<'a>(text: Walk<'a>) -> Result<usize, NoMemory>
+    ensures { IfOk result (λ n. n ≡ length text.entry) }
 {
-    if count == 0 && inner.is_empty() {
-        None
-    } else {
-        Some(Stack::from_vec(inner))
+    let mut text = text;
+    let mut found: usize = 0;
+    while let Some(_token) = text.next() {
+        found = one_more(found)?;
+    }
+    Ok(found)
+}
+
+/// The segment of the variable argument: empty where no comma stands before it (C11 6.10.3,
+/// paragraph 12).
+fn variable<'a>(behind: Option<Walk<'a>>) -> Result<Segment, NoMemory>
+    ensures { IfOk result (λ s. (closing : token_type) (rest : list token_type) → Cuts (s ∷ []) (left_behind behind.entry closing rest) (meaning.tokens_or_none behind.entry ∷ []) rest) }
+{
+    match behind {
+        None => Ok(Segment {
+            tokens: 0,
+            is_ended: false,
+        }),
+        Some(text) => Ok(Segment {
+            tokens: count(text)?,
+            is_ended: true,
+        }),
     }
 }
 
-/// The tokens of a text that may be absent.
-fn tokens_or_none(alloc: Global, text: Option<Stack<Token>>) -> Vec<Token>
-    ensures { result.items ≡ meaning.tokens_or_none text }
+/// The segments with the variable argument's, where their number fits.
+fn with_variable<'a>(variadic: bool, named: Named<'a>) -> Result<Option<Vec<Segment>>, NoMemory>
+    ensures { IfOk result (λ found. MatchOption found ((raw : list (list token_type)) → meaning.with_variable variadic (Some (record { arguments = raw; behind = named.entry.behind })) ≡ None) (λ segments. (text : list token_type) (raw : list (list token_type)) → CutsText named.entry.segments.items text raw named.entry.behind → (all : list (list token_type)) × (meaning.with_variable variadic (Some (record { arguments = raw; behind = named.entry.behind })) ≡ Some all) × CutsText segments.items text all None)) }
 {
-    match text {
-        None => Vec::new(alloc),
-        Some(text) => text.into_vec(),
-    }
-}
-
-/// The arguments with the variable one, where their number fits.
-fn with_variable(
-    alloc: Global,
-    variadic: bool,
-    named: Named,
-) -> Result<Option<List<List<Token>>>, NoMemory>
-    ensures { IfOk result (λ found. found ≡ meaning.with_variable variadic (Some (record { arguments = named.arguments; behind = named.behind }))) }
-{
-    let mut arguments = named.arguments;
+    let mut segments = named.segments;
     if variadic {
-        let variable = tokens_or_none(alloc, named.behind);
-        arguments.push(List::from_vec(variable))?;
-        return Ok(Some(arguments));
+        segments.push(variable(named.behind)?)?;
+        return Ok(Some(segments));
     }
     match named.behind {
-        None => Ok(Some(arguments)),
+        None => Ok(Some(segments)),
         Some(_) => Ok(None),
     }
 }
 
-/// The arguments of a call: one for each parameter, and behind them the variable one; or `None`
-/// where their number does not fit.
+/// The segments of the arguments of a call with these tokens between its brackets: one for each
+/// parameter, and behind them the variable one; or `None` where their number does not fit.
 #[tactic(auto, unfolding(crate::specs::Arguments::arguments_of))]
-pub(crate) fn arguments_of(
+pub(crate) fn arguments_of<'a>(
     alloc: Global,
     count: usize,
     variadic: bool,
-    inner: Vec<Token>,
-) -> Result<Option<List<List<Token>>>, NoMemory>
-    ensures { IfOk result (λ found. found ≡ meaning.arguments_of count variadic inner.items) }
+    inner: Walk<'a>,
+) -> Result<Option<Vec<Segment>>, NoMemory>
+    requires { (0 < count) ⊎ (variadic ≡ true) }
+    ensures { IfOk result (λ found. MatchOption found (meaning.arguments_of count variadic inner.entry ≡ None) (λ segments. (raw : list (list token_type)) × (meaning.arguments_of count variadic inner.entry ≡ Some raw) × CutsText segments.items inner.entry raw None)) }
 {
-    match named_arguments(alloc, count, text_between(count, inner))? {
+    match named_arguments(alloc, count, inner)? {
         None => Ok(None),
-        Some(named) => with_variable(alloc, variadic, named),
+        Some(named) => with_variable(variadic, named),
     }
 }

@@ -1,19 +1,20 @@
 //! Calls whose arguments are being expanded.
-ghost use Rattle.std.specs.Prelude.{◌≡◌, ◌≢◌, ◌+◌, ◌<◌, ◌≤◌, ◌∷◌, ℕ, List as list, length, IfOk, IfErr};
-ghost use Rattle.cx_tokens.specs.declared.token.Token.{Token};
-ghost use Rattle.cx_tokens.specs.Nodes.{tokens};
+ghost use Rattle.std.specs.Prelude.{◌≡◌, ◌≢◌, ◌+◌, ◌<◌, ◌≤◌, [], ℕ, cond, length, IfOk, IfErr};
 ghost use Rattle.cx_macro.specs.Macros.{Table};
-ghost use Rattle.cx_macro.specs.Steps.{FailsBehind, FailsIn, Proceeds, Resumes, next_argument};
+ghost use Rattle.cx_macro.specs.Parts.{is_raw};
+ghost use Rattle.cx_macro.specs.Replacement.{other};
+ghost use Rattle.cx_macro.specs.Steps.{FailsBehind, FailsIn, Proceeds, Resumes, wanted_argument};
+ghost use Rattle.cx_macro.specs.Stored.{definition_of};
 
+use crate::buffer::Buffer;
 use crate::expansion::{Call, State};
 use crate::fault::MacroFault;
-use crate::level::Level;
-use crate::lists::{list_of, tokens_of};
-use crate::parts::{Arguments, argument, is_expanded};
+use crate::parts::{Arguments, is_expanded, is_raw};
 use crate::replacing::replacement;
 use crate::stack::Stack;
+use crate::stored::Stored;
 use cx_base::{List, NoMemory};
-use cx_tokens::{Token, TokenList};
+use cx_tokens::Token;
 use std::alloc::Global;
 
 /// How many tokens are laid behind a replacement of a name by others.
@@ -34,34 +35,56 @@ pub(crate) fn count(laid: u32, bound: u32, name: &Token, news: &[Token]) -> Resu
     }
 }
 
-/// The argument of a call that is expanded next: nothing, where it is not to be.
-fn next_of<'b>(call: &'b Call) -> &'b [Token]
-    ensures { result.now ≡ next_argument call.now }
+/// What is kept of the argument ahead as it is: nothing, where it stands nowhere beside `#` or `##`.
+fn kept(
+    alloc: Global,
+    buffer: &Buffer,
+    stored: &Stored,
+    index: usize,
+) -> Result<List<Token>, NoMemory>
+    ensures { IfOk result (λ l. l ≡ cond (is_raw (definition_of stored.now) index other stored.now.body) buffer.now.ahead []) }
 {
-    let index = call.expanded.len();
-    if is_expanded(call.stored, index) {
-        argument(call.raw.as_slice(), index)
+    if is_raw(stored, index) {
+        buffer.walk().copies(alloc)
     } else {
-        &[]
+        Ok(List::new(alloc))
     }
 }
 
-/// Begins the next argument of a call.
+/// Takes the argument ahead out of the list, where it is not to be expanded.
+fn take_unwanted(buffer: &mut Buffer, stored: &Stored, index: usize)
+    ensures done { buffer.new.done ≡ buffer.old.done }
+    ensures ahead { buffer.new.ahead ≡ wanted_argument (definition_of stored.now) index buffer.old.ahead }
+    ensures more { buffer.new.more ≡ buffer.old.more }
+{
+    if !is_expanded(stored, index) {
+        buffer.clear();
+    }
+}
+
+/// Begins the next argument of a call, which is the segment ahead.
 fn begin<'a>(
     alloc: Global,
     laid: u32,
+    buffer: Buffer,
     call: Call<'a>,
     calls: Stack<Call<'a>>,
 ) -> Result<State<'a>, NoMemory>
-    requires { length call.expanded < length call.raw }
-    ensures { IfOk result (λ new. (table : Table) (bound : ℕ) → laid ≤ bound → Proceeds table bound laid call.entry calls.entry new) }
+    requires { length call.expanded < call.arguments }
+    ensures { IfOk result (λ new. (table : Table) (bound : ℕ) → laid ≤ bound → Proceeds table bound laid buffer call.entry calls.entry new) }
 {
-    let list = list_of(alloc, next_of(&call))?;
+    let mut buffer = buffer;
+    let mut call = call;
     let mut calls = calls;
+    let index = call.expanded.len();
+    let kept = kept(alloc, &buffer, call.stored, index)?;
+    take_unwanted(&mut buffer, call.stored, index);
+    call.raw.push(kept)?;
     calls.push(call)?;
     Ok(State {
         laid,
-        level: Level::new(list),
+        buffer,
+        done: List::new(alloc),
         calls,
     })
 }
@@ -71,12 +94,13 @@ fn finish<'a>(
     alloc: Global,
     bound: u32,
     laid: u32,
+    buffer: Buffer,
     call: Call<'a>,
     calls: Stack<Call<'a>>,
 ) -> Result<State<'a>, MacroFault>
-    requires { length call.raw ≤ length call.expanded }
-    ensures new { IfOk result (λ new. (table : Table) → Proceeds table bound laid call.entry calls.entry new) }
-    ensures fault { IfErr result (λ fault. (table : Table) → FailsIn table bound laid call.entry calls.entry fault) }
+    requires { call.arguments ≤ length call.expanded }
+    ensures new { IfOk result (λ new. (table : Table) → Proceeds table bound laid buffer call.entry calls.entry new) }
+    ensures fault { IfErr result (λ fault. (table : Table) → FailsIn table bound laid buffer call.entry calls.entry fault) }
 {
     let arguments = Arguments {
         raw: call.raw.as_slice(),
@@ -84,9 +108,14 @@ fn finish<'a>(
     };
     let news = replacement(alloc, call.stored, arguments, &call.name, &call.hide)?;
     let laid = count(laid, bound, &call.name, news.as_slice())?;
-    let mut level = call.outer;
-    level.put(news)?;
-    Ok(State { laid, level, calls })
+    let mut buffer = buffer;
+    buffer.put(news)?;
+    Ok(State {
+        laid,
+        buffer,
+        done: call.done,
+        calls,
+    })
 }
 
 /// Goes on with a call: with its next argument, or with what replaces it.
@@ -94,34 +123,39 @@ pub(crate) fn proceed<'a>(
     alloc: Global,
     bound: u32,
     laid: u32,
+    buffer: Buffer,
     call: Call<'a>,
     calls: Stack<Call<'a>>,
 ) -> Result<State<'a>, MacroFault>
     requires { laid ≤ bound }
-    ensures new { IfOk result (λ new. (table : Table) → Proceeds table bound laid call.entry calls.entry new) }
-    ensures fault { IfErr result (λ fault. (table : Table) → FailsIn table bound laid call.entry calls.entry fault) }
+    ensures new { IfOk result (λ new. (table : Table) → Proceeds table bound laid buffer call.entry calls.entry new) }
+    ensures fault { IfErr result (λ fault. (table : Table) → FailsIn table bound laid buffer call.entry calls.entry fault) }
 {
-    if call.expanded.len() < call.raw.len() {
-        Ok(begin(alloc, laid, call, calls)?)
+    if call.expanded.len() < call.arguments {
+        Ok(begin(alloc, laid, buffer, call, calls)?)
     } else {
-        finish(alloc, bound, laid, call, calls)
+        finish(alloc, bound, laid, buffer, call, calls)
     }
 }
 
-/// Goes on with a call of which an argument has been expanded.
+/// Goes on with a call of which an argument has been expanded to these tokens.
 pub(crate) fn resume<'a>(
     alloc: Global,
     bound: u32,
     laid: u32,
-    done: &TokenList,
+    buffer: Buffer,
+    done: List<Token>,
     call: Call<'a>,
     calls: Stack<Call<'a>>,
 ) -> Result<State<'a>, MacroFault>
-    requires { laid ≤ bound }
-    ensures new { IfOk result (λ new. (table : Table) → Resumes table bound laid (tokens done.now) call.entry calls.entry new) }
-    ensures fault { IfErr result (λ fault. (table : Table) → FailsBehind table bound laid (tokens done.now) call.entry calls.entry fault) }
+    requires within { laid ≤ bound }
+    requires ends { buffer.ahead ≡ [] }
+    ensures new { IfOk result (λ new. (table : Table) → Resumes table bound laid buffer done call.entry calls.entry new) }
+    ensures fault { IfErr result (λ fault. (table : Table) → FailsBehind table bound laid buffer done call.entry calls.entry fault) }
 {
+    let mut buffer = buffer;
     let mut call = call;
-    call.expanded.push(tokens_of(alloc, done)?)?;
-    proceed(alloc, bound, laid, call, calls)
+    call.expanded.push(done)?;
+    buffer.advance();
+    proceed(alloc, bound, laid, buffer, call, calls)
 }

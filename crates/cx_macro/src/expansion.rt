@@ -1,5 +1,5 @@
 //! A list while it is expanded.
-use crate::level::Level;
+use crate::buffer::Buffer;
 use crate::stack::Stack;
 use crate::stored::Stored;
 use cx_base::{List, Text};
@@ -12,17 +12,23 @@ pub(crate) struct Call<'a> {
     pub(crate) stored: &'a Stored,
     /// What the tokens that replace it hide.
     pub(crate) hide: List<Text>,
+    /// How many arguments it has.
+    pub(crate) arguments: usize,
+    /// Those that have been begun, as they are, where they stand beside `#` or `##`; else nothing.
     pub(crate) raw: List<List<Token>>,
+    /// Those that are expanded.
     pub(crate) expanded: List<List<Token>>,
-    /// The list that it stands in, done up to its name, and ahead what is behind its bracket.
-    pub(crate) outer: Level,
+    /// What is done of the argument that the call stands in, where it stands in one.
+    pub(crate) done: List<Token>,
 }
 
 /// A list that is expanded, with the calls whose arguments are, the innermost on top.
 #[derive(Drop)]
 pub(crate) struct State<'a> {
     pub(crate) laid: u32,
-    pub(crate) level: Level,
+    pub(crate) buffer: Buffer,
+    /// What is done of the argument that is expanded, where one is.
+    pub(crate) done: List<Token>,
     pub(crate) calls: Stack<Call<'a>>,
 }
 

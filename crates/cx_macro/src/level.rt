@@ -4,6 +4,7 @@ ghost use Rattle.cx_tokens.specs.declared.token.Token.{Token as token_type};
 ghost use Rattle.cx_tokens.specs.Nodes.{first_of, is_live, tokens};
 ghost use Rattle.cx_macro.specs.Levels.{nodes_ahead};
 
+use crate::walk::Walk;
 use cx_base::NoMemory;
 use cx_tokens::{Node, Token, TokenList};
 use std::marker::Model;
@@ -37,13 +38,12 @@ impl Level {
         Level { list, last: None }
     }
 
-    /// The first token ahead.
-    pub(crate) fn peek(&self) -> Option<&Token>
-        ensures { MatchOption result (self.now.ahead ≡ []) (λ t. (rest : list token_type) × (self.now.ahead ≡ t.now ∷ rest)) }
+    /// Reads the tokens ahead.
+    pub(crate) fn walk(&self) -> Walk
+        ensures { result ≡ self.now.ahead }
     {
         self.list.are_numbered();
-        let node = node_ahead(&self.list, self.last)?;
-        Some(self.list.token(node))
+        Walk::from(&self.list, node_ahead(&self.list, self.last))
     }
 
     /// Takes the first token ahead out of the list.

@@ -6,7 +6,9 @@ pub use laws::{nothing_is_replaced, one_outcome, the_bound_is_met};
 pub use macros::{Expanded, Macro, Macros};
 
 mod arguments;
+mod buffer;
 mod calls;
+mod definable;
 mod expansion;
 mod fault;
 mod hiding;
@@ -18,9 +20,11 @@ mod marks;
 mod parts;
 mod pasting;
 mod replacing;
+mod segment;
 mod spelling;
 mod stack;
 mod steps;
 mod stored;
 #[cfg(test)]
 mod tests;
+mod walk;

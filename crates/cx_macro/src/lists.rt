@@ -21,19 +21,6 @@ pub(crate) fn tokens_of(alloc: Global, list: &TokenList) -> Result<List<Token>, 
     Ok(found)
 }
 
-/// A list of copies of tokens.
-pub(crate) fn list_of(alloc: Global, copied: &[Token]) -> Result<TokenList, NoMemory>
-    ensures { IfOk result (λ l. tokens l ≡ copied.now) }
-{
-    let mut list = TokenList::new(alloc);
-    let mut last = None;
-    for token in copied {
-        list.are_numbered();
-        last = Some(list.insert_after(last, token.copy()?)?);
-    }
-    Ok(list)
-}
-
 /// The first token of a list.
 pub(crate) fn first_of(list: &TokenList) -> Option<&Token>
     ensures { MatchOption result (tokens list.now ≡ []) (λ t. (rest : list_type token_type) × (tokens list.now ≡ t.now ∷ rest)) }

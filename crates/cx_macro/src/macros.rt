@@ -100,14 +100,6 @@ impl Macros {
         ensures ok { OnOk result (self.new ≡ defined name (definition_by made) self.old) }
         ensures err { OnErr result (self.new ≡ self.old) }
     {
-        self.put(name, made)
-    }
-
-    /// The same for anything that has the form of a macro.
-    pub(crate) fn put(&mut self, name: Text, made: Macro) -> Result<(), NoMemory>
-        ensures ok { OnOk result (self.new ≡ defined name (definition_by made) self.old) }
-        ensures err { OnErr result (self.new ≡ self.old) }
-    {
         let key = Vec::from_slice(self.alloc, name.as_slice())?;
         let body = tokens_of(self.alloc, &made.body)?;
         let stored = Stored {

@@ -1,7 +1,7 @@
 //! The parts of a body with its arguments put in (C11 6.10.3.1).
 ghost use Rattle.std.specs.Prelude.{◌≡◌, [], ◌∷◌, ◌++◌, IfOk, MatchOption, Some, true, ◌&&◌, not};
 ghost use Rattle.cx_macro.specs.Macros as macros;
-ghost use Rattle.cx_macro.specs.Parts.{behind_of, parts};
+ghost use Rattle.cx_macro.specs.Parts.{behind_of, is_raw, parts};
 ghost use Rattle.cx_macro.specs.Replacement as meaning;
 ghost use Rattle.cx_macro.specs.Stored.{definition_of};
 
@@ -232,6 +232,50 @@ pub(crate) fn is_expanded(stored: &Stored, index: usize) -> bool
     let mut rest = stored.body.as_slice();
     while let Some((token, behind)) = first(rest) {
         let Some(next) = passed(stored, index, before, token, behind) else {
+            return true;
+        };
+        before = next;
+        rest = behind;
+    }
+    false
+}
+
+/// What stands before the next token, where a token does not want the argument with an index as it
+/// is.
+#[tactic(auto, unfolding(crate::specs::Parts::is_raw))]
+fn passed_raw<'a>(
+    stored: &Stored,
+    index: usize,
+    before: Before<'a>,
+    token: &'a Token,
+    rest: &[Token],
+) -> Option<Before<'a>>
+    ensures { MatchOption result (is_raw (definition_of stored.now) index (behind_of before.entry) (token.now ∷ rest.now) ≡ true) (λ next. is_raw (definition_of stored.now) index (behind_of before.entry) (token.now ∷ rest.now) ≡ is_raw (definition_of stored.now) index (behind_of next) rest.now) }
+{
+    let here = is_index(index, stored.parameter_at(token));
+    if let Before::Hash(_) = before {
+        return if here { None } else { Some(Before::Other) };
+    }
+    if is_paste(token) {
+        return Some(Before::Paste);
+    }
+    if stored.is_operator(token) {
+        return Some(Before::Hash(token));
+    }
+    if here && is_beside(before, rest) {
+        return None;
+    }
+    Some(Before::Other)
+}
+
+/// Whether the parameter with an index stands somewhere beside `#` or `##`.
+pub(crate) fn is_raw(stored: &Stored, index: usize) -> bool
+    ensures { result ≡ is_raw (definition_of stored.now) index meaning.other stored.now.body }
+{
+    let mut before = Before::Other;
+    let mut rest = stored.body.as_slice();
+    while let Some((token, behind)) = first(rest) {
+        let Some(next) = passed_raw(stored, index, before, token, behind) else {
             return true;
         };
         before = next;

@@ -1,9 +1,10 @@
 //! Stacks.
-ghost use Rattle.std.specs.Prelude.{◌≡◌, List as list, [], ◌∷◌, ◌++◌, length, OnOk, OnErr, MatchOption};
+ghost use Rattle.std.specs.Prelude.{◌≡◌, List as list, [], ◌∷◌, ◌++◌, length, ◌==◌, OnOk, OnErr, MatchOption};
 
 use cx_base::NoMemory;
 use std::alloc::Global;
 use std::marker::Model;
+use std::mem;
 
 /// A stack, which contracts see as the list of its members from the top.
 #[derive(Drop)]
@@ -50,6 +51,20 @@ impl<T> Stack<T> {
         items
     }
 
+    /// Whether it has no member.
+    pub(crate) fn is_empty(&self) -> bool
+        ensures { result ≡ (length self.now == 0) }
+    {
+        self.items.is_empty()
+    }
+
+    /// The member on top.
+    pub(crate) fn peek(&self) -> Option<&T>
+        ensures { MatchOption result (self.now ≡ []) (λ x. (rest : list T) × (self.now ≡ x.now ∷ rest)) }
+    {
+        self.items.last()
+    }
+
     /// Takes the member on top.
     pub(crate) fn pop(&mut self) -> Option<T>
         ensures { MatchOption result ((self.old ≡ []) × (self.new ≡ [])) (λ x. self.old ≡ x ∷ self.new) }
@@ -59,6 +74,14 @@ impl<T> Stack<T> {
 }
 
 impl<T: Drop> Stack<T> {
+    /// Puts another member in the place of the one on top.
+    pub(crate) fn replace(&mut self, item: T) -> Option<T>
+        ensures { MatchOption result ((self.old ≡ []) × (self.new ≡ [])) (λ x. (rest : list T) × (self.old ≡ x ∷ rest) × (self.new ≡ item ∷ rest)) }
+    {
+        let top = self.items.last_mut()?;
+        Some(mem::replace(top, item))
+    }
+
     /// Puts a member on top; a refused call changes nothing and gives the member up.
     pub(crate) fn push(&mut self, item: T) -> Result<(), NoMemory>
         ensures ok { OnOk result (self.new ≡ item ∷ self.old) }

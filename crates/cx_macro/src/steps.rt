@@ -8,16 +8,16 @@ ghost use Rattle.cx_macro.specs.Steps.{FailsAt, FailsOn, MeaningIs, StepIs, Take
 ghost use Rattle.cx_macro.specs.Uses.{begins_call, may_go};
 ghost use Rattle.cx_macro.specs.Stored.{definition_of};
 
-use crate::arguments::{arguments_of, bracketed};
+use crate::buffer::Buffer;
 use crate::calls::{count, proceed, resume};
 use crate::expansion::{Call, Meaning, State, Step};
 use crate::fault::MacroFault;
 use crate::hiding::{common, is_among, with_name};
-use crate::level::Level;
 use crate::macros::Macros;
 use crate::marks::{is_name, is_open};
 use crate::parts::Arguments;
 use crate::replacing::replacement;
+use crate::segment::Cut;
 use crate::stack::Stack;
 use crate::stored::{Stored, is_same};
 use cx_base::{List, Text};
@@ -53,11 +53,15 @@ fn meaning_of<'a>(macros: &'a Macros, token: &Token) -> Meaning<'a>
 
 /// Lets a token stay.
 fn stay<'a>(state: State<'a>, token: Token) -> Result<State<'a>, MacroFault>
-    ensures new { IfOk result (λ new. (table : Table) (bound : ℕ) → use_of table token state.entry.level.ahead ≡ stays → state.entry.laid ≤ bound → Takes table bound token state.entry new) }
+    ensures new { IfOk result (λ new. (table : Table) (bound : ℕ) → use_of table token state.entry.buffer.ahead ≡ stays → state.entry.laid ≤ bound → Takes table bound token state.entry new) }
     ensures fault { IfErr result (λ fault. fault ≡ MacroFault.NoMemory) }
 {
     let mut state = state;
-    state.level.keep(token)?;
+    if state.calls.is_empty() {
+        state.buffer.keep(token)?;
+        return Ok(state);
+    }
+    state.done.push(token)?;
     Ok(state)
 }
 
@@ -69,8 +73,8 @@ fn replace<'a>(
     stored: &Stored,
     name: Token,
 ) -> Result<State<'a>, MacroFault>
-    ensures new { IfOk result (λ new. (table : Table) → use_of table name state.entry.level.ahead ≡ replaced (definition_of stored.now) → Takes table bound name state.entry new) }
-    ensures fault { IfErr result (λ fault. (table : Table) → use_of table name state.entry.level.ahead ≡ replaced (definition_of stored.now) → FailsAt table bound name state.entry fault) }
+    ensures new { IfOk result (λ new. (table : Table) → use_of table name state.entry.buffer.ahead ≡ replaced (definition_of stored.now) → Takes table bound name state.entry new) }
+    ensures fault { IfErr result (λ fault. (table : Table) → use_of table name state.entry.buffer.ahead ≡ replaced (definition_of stored.now) → FailsAt table bound name state.entry fault) }
 {
     let none = Arguments {
         raw: &[],
@@ -78,30 +82,30 @@ fn replace<'a>(
     };
     let hide = with_name(&name.text, &name.hide)?;
     let news = replacement(alloc, stored, none, &name, &hide)?;
-    let State { laid, level, calls } = state;
-    let laid = count(laid, bound, &name, news.as_slice())?;
-    let mut level = level;
-    level.put(news)?;
-    Ok(State { laid, level, calls })
+    let mut state = state;
+    state.laid = count(state.laid, bound, &name, news.as_slice())?;
+    state.buffer.put(news)?;
+    Ok(state)
 }
 
 /// Whether an opening bracket is ahead.
-fn begins_call(level: &Level) -> bool
-    ensures { result ≡ begins_call level.now.ahead }
+fn begins_call(buffer: &Buffer) -> bool
+    ensures { result ≡ begins_call buffer.now.ahead }
 {
-    match level.peek() {
+    match buffer.peek() {
         None => false,
         Some(token) => is_open(token),
     }
 }
 
 /// Takes the opening bracket that is ahead.
-fn pass_bracket(level: &mut Level)
-    requires { IsTrue (begins_call level.old.ahead) }
-    ensures ahead { (bracket : Token) × (level.old.ahead ≡ bracket ∷ level.new.ahead) }
-    ensures done { level.new.done ≡ level.old.done }
+fn pass_bracket(buffer: &mut Buffer)
+    requires { IsTrue (begins_call buffer.old.ahead) }
+    ensures ahead { (bracket : Token) × (buffer.old.ahead ≡ bracket ∷ buffer.new.ahead) }
+    ensures done { buffer.new.done ≡ buffer.old.done }
+    ensures more { buffer.new.more ≡ buffer.old.more }
 {
-    let _open = level.pop();
+    let _open = buffer.pop();
 }
 
 /// Begins the call of a macro whose name was taken and whose opening bracket is ahead.
@@ -115,30 +119,39 @@ fn call<'a>(
 ) -> Result<State<'a>, MacroFault>
     requires within { state.laid ≤ bound }
     requires parameters { stored.now.parameters ≡ Some parameters.now }
-    requires open { IsTrue (begins_call state.level.ahead) }
+    requires open { IsTrue (begins_call state.buffer.ahead) }
     ensures new { IfOk result (λ new. (table : Table) → definition_at table name ≡ Some (definition_of stored.now) → Takes table bound name state.entry new) }
     ensures fault { IfErr result (λ fault. (table : Table) → definition_at table name ≡ Some (definition_of stored.now) → FailsAt table bound name state.entry fault) }
 {
-    let State { laid, level, calls } = state;
-    let mut outer = level;
-    pass_bracket(&mut outer);
-    let Some((inner, closing)) = bracketed(alloc, &mut outer)? else {
-        return Err(MacroFault::UnclosedCall { at: name.place });
-    };
-    let Some(raw) = arguments_of(alloc, parameters.len(), stored.variadic, inner)? else {
-        return Err(MacroFault::ArgumentCount { at: name.place });
-    };
-    let both = common(alloc, name.hide.as_slice(), closing.hide.as_slice())?;
-    let hide = with_name(&name.text, &both)?;
-    let call = Call {
-        name,
-        stored,
-        hide,
-        raw,
-        expanded: List::new(alloc),
-        outer,
-    };
-    proceed(alloc, bound, laid, call, calls)
+    let State {
+        laid,
+        buffer,
+        done,
+        calls,
+    } = state;
+    let mut buffer = buffer;
+    pass_bracket(&mut buffer);
+    match buffer.cut(alloc, parameters.len(), stored.variadic)? {
+        Cut::Unclosed => Err(MacroFault::UnclosedCall { at: name.place }),
+        Cut::Miscounted => Err(MacroFault::ArgumentCount { at: name.place }),
+        Cut::Called {
+            hide: closing,
+            arguments,
+        } => {
+            let both = common(alloc, name.hide.as_slice(), closing.as_slice())?;
+            let hide = with_name(&name.text, &both)?;
+            let call = Call {
+                name,
+                stored,
+                hide,
+                arguments,
+                raw: List::new(alloc),
+                expanded: List::new(alloc),
+                done,
+            };
+            proceed(alloc, bound, laid, buffer, call, calls)
+        }
+    }
 }
 
 /// Takes the name of a macro.
@@ -156,7 +169,7 @@ fn take_name<'a>(
     let Some(parameters) = &stored.parameters else {
         return replace(alloc, bound, state, stored, name);
     };
-    if begins_call(&state.level) {
+    if begins_call(&state.buffer) {
         call(alloc, bound, state, stored, parameters.as_slice(), name)
     } else {
         stay(state, name)
@@ -197,15 +210,22 @@ pub(crate) fn step<'a>(
     ensures fault { IfErr result (λ fault. FailsOn macros.now bound state.entry fault) }
 {
     let mut state = state;
-    if let Some(token) = state.level.pop() {
+    if let Some(token) = state.buffer.pop() {
         return Ok(Step::Goes(take(macros, alloc, bound, state, token)?));
     }
-    let State { laid, level, calls } = state;
+    let State {
+        laid,
+        buffer,
+        done,
+        calls,
+    } = state;
     let mut calls = calls;
-    let done = level.into_list();
     match calls.pop() {
-        None => Ok(Step::Ends { done, laid }),
-        Some(call) => Ok(Step::Goes(resume(alloc, bound, laid, &done, call, calls)?)),
+        None => Ok(Step::Ends {
+            done: buffer.into_list(),
+            laid,
+        }),
+        Some(call) => Ok(Step::Goes(resume(alloc, bound, laid, buffer, done, call, calls)?)),
     }
 }
 
@@ -224,7 +244,8 @@ pub(crate) fn run(
 {
     let mut state = State {
         laid,
-        level: Level::new(list),
+        buffer: Buffer::new(alloc, list),
+        done: List::new(alloc),
         calls: Stack::new(alloc),
     };
     loop {

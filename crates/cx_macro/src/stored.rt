@@ -11,7 +11,7 @@ use cx_tokens::{Kind, Token};
 use std::alloc::Global;
 
 /// The name of the variable argument (C11 6.10.3, paragraph 5).
-const VARIABLE_NAME: &[u8] = b"__VA_ARGS__";
+pub(crate) const VARIABLE_NAME: &[u8] = b"__VA_ARGS__";
 
 /// A macro, with the tokens of its body.
 #[derive(Drop)]

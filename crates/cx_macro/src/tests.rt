@@ -1,10 +1,12 @@
 //! What lists expand to.
 use crate::fault::MacroFault;
+use crate::level::Level;
 use crate::macros::{Expanded, Macro, Macros};
 use cx_base::{List, NoMemory, Text};
 use cx_lex::{Piece, lex};
-use cx_tokens::{Kind, TokenList};
-use std::alloc::{AllocError, Global};
+use cx_tokens::{Kind, Token, TokenList};
+use std::alloc::{AllocError, AllocGlobal, Global};
+use std::process::Abort;
 use std::str;
 
 /// Definitions, one a line, a text, and what it expands to: the tokens with a space between each
@@ -147,6 +149,22 @@ const COUNTS: [(&str, &str, u32, u32, &str); 11] = [
     ("f(x) #x\nm 1", "f(m)", 0, 6, "\"m\" = 6"),
 ];
 
+/// Lines, and whether what they say can be defined.
+const DEFINITIONS: [(&str, bool); 12] = [
+    ("f(x,x) x", false),
+    ("f(x,y) # x", true),
+    ("f(x) #x", true),
+    ("f(x) #y", false),
+    ("f(x) # ", false),
+    ("f(x) ##", true),
+    ("f(x) #__VA_ARGS__", false),
+    ("f(...) #__VA_ARGS__", true),
+    ("f(x,...) #x #__VA_ARGS__", true),
+    ("f() #", false),
+    ("o #", true),
+    ("f(x) #x x # #x", false),
+];
+
 /// The pieces of a text.
 fn pieces(alloc: Global, text: &str) -> Result<List<Piece>, NoMemory> {
     if text.len() >= 4_294_967_295 {
@@ -158,13 +176,20 @@ fn pieces(alloc: Global, text: &str) -> Result<List<Piece>, NoMemory> {
     }
 }
 
+/// A list of tokens.
+fn list_from(alloc: Global, tokens: Vec<Token>) -> Result<TokenList, NoMemory> {
+    let mut level = Level::new(TokenList::new(alloc));
+    level.put(tokens)?;
+    Ok(level.into_list())
+}
+
 /// A list of the tokens of pieces.
 fn list_of(alloc: Global, pieces: &[Piece]) -> Result<TokenList, NoMemory> {
-    let mut tokens = List::new(alloc);
+    let mut tokens = Vec::new(alloc);
     for piece in pieces {
         tokens.push(piece.token.copy()?)?;
     }
-    crate::lists::list_of(alloc, tokens.as_slice())
+    list_from(alloc, tokens)
 }
 
 fn is(piece: &Piece, text: &[u8]) -> bool {
@@ -179,17 +204,17 @@ fn begins_parameters(rest: &[Piece]) -> bool {
     }
 }
 
-/// Defines what a line says.
-fn define(alloc: Global, macros: &mut Macros, line: &str) -> Result<(), NoMemory> {
+/// The name and the macro that a line says, where it has any pieces.
+fn definition(alloc: Global, line: &str) -> Result<Option<(Text, Macro)>, NoMemory> {
     let pieces = pieces(alloc, line)?;
     let Some((name, rest)) = pieces.as_slice().split_first() else {
-        return Ok(());
+        return Ok(None);
     };
     let mut in_brackets = begins_parameters(rest);
     let function_like = in_brackets;
     let mut names = List::new(alloc);
     let mut variadic = false;
-    let mut body = List::new(alloc);
+    let mut body = Vec::new(alloc);
     for piece in rest {
         if !in_brackets {
             body.push(piece.token.copy()?)?;
@@ -201,14 +226,29 @@ fn define(alloc: Global, macros: &mut Macros, line: &str) -> Result<(), NoMemory
             names.push(piece.token.text.copy()?)?;
         }
     }
-    let body = crate::lists::list_of(alloc, body.as_slice())?;
+    let body = list_from(alloc, body)?;
     let parameters = if function_like { Some(names) } else { None };
     let made = Macro {
         parameters,
         variadic,
         body,
     };
-    macros.put(name.token.text.copy()?, made)
+    Ok(Some((name.token.text.copy()?, made)))
+}
+
+/// Defines what a line says, which has to be a definition.
+fn define(
+    rt: &(impl Abort + AllocGlobal),
+    macros: &mut Macros,
+    line: &str,
+) -> Result<(), NoMemory> {
+    let alloc = rt.alloc();
+    let Some((name, made)) = definition(alloc, line)? else {
+        return Ok(());
+    };
+    let can_be_defined = made.can_be_defined(alloc)?;
+    assert!(rt; can_be_defined, "cannot be defined: {line}");
+    macros.define(name, made)
 }
 
 fn shown_fault(alloc: Global, fault: MacroFault) -> Result<String, AllocError> {
@@ -239,15 +279,16 @@ fn shown_list(alloc: Global, list: &TokenList) -> Result<String, AllocError> {
 
 /// What a text expands to, where so many tokens may be laid, and so many have been.
 fn expansion(
-    alloc: Global,
+    rt: &(impl Abort + AllocGlobal),
     lines: &str,
     text: &str,
     laid: u32,
     bound: u32,
 ) -> Result<Result<Expanded, MacroFault>, NoMemory> {
+    let alloc = rt.alloc();
     let mut macros = Macros::new(alloc);
     for line in lines.lines() {
-        define(alloc, &mut macros, line)?;
+        define(rt, &mut macros, line)?;
     }
     let pieces = pieces(alloc, text)?;
     let list = list_of(alloc, pieces.as_slice())?;
@@ -277,7 +318,7 @@ fn shown(alloc: Global, answer: Result<Expanded, MacroFault>) -> Result<String, 
 #[test]
 fn lists_are_expanded(rt: HostRuntime) {
     for (lines, text, expected) in EXPANSIONS {
-        let answer = expansion(rt.alloc(), lines, text, 0, 262_144).expect(&rt, "memory");
+        let answer = expansion(&rt, lines, text, 0, 262_144).expect(&rt, "memory");
         let shown = shown(rt.alloc(), answer).expect(&rt, "memory");
         assert_eq!(rt; shown.as_str(), expected, "at {text}");
     }
@@ -286,7 +327,7 @@ fn lists_are_expanded(rt: HostRuntime) {
 #[test]
 fn tokens_are_counted(rt: HostRuntime) {
     for (lines, text, laid, bound, expected) in COUNTS {
-        let answer = expansion(rt.alloc(), lines, text, laid, bound).expect(&rt, "memory");
+        let answer = expansion(&rt, lines, text, laid, bound).expect(&rt, "memory");
         let shown = counted(rt.alloc(), answer).expect(&rt, "memory");
         assert_eq!(rt; shown.as_str(), expected, "at {text}");
     }
@@ -314,7 +355,7 @@ fn repeated(
 #[test]
 fn many_names_are_replaced(rt: HostRuntime) {
     let text = repeated(rt.alloc(), "m ", "", "", 2000).expect(&rt, "memory");
-    let answer = expansion(rt.alloc(), "m 1", text.as_str(), 0, 262_144).expect(&rt, "memory");
+    let answer = expansion(&rt, "m 1", text.as_str(), 0, 262_144).expect(&rt, "memory");
     let Ok(expanded) = answer else {
         panic!(rt; "refused");
     };
@@ -324,9 +365,28 @@ fn many_names_are_replaced(rt: HostRuntime) {
 #[test]
 fn calls_are_nested(rt: HostRuntime) {
     let text = repeated(rt.alloc(), "f(", "1", ")", 100).expect(&rt, "memory");
-    let answer = expansion(rt.alloc(), "f(x) x", text.as_str(), 0, 262_144).expect(&rt, "memory");
+    let answer = expansion(&rt, "f(x) x", text.as_str(), 0, 262_144).expect(&rt, "memory");
     let shown = shown(rt.alloc(), answer).expect(&rt, "memory");
     assert_eq!(rt; shown.as_str(), "1");
+}
+
+#[test]
+fn what_can_be_defined(rt: HostRuntime) {
+    let alloc = rt.alloc();
+    for (line, expected) in DEFINITIONS {
+        let Some((_, made)) = definition(alloc, line).expect(&rt, "memory") else {
+            panic!(rt; "no pieces");
+        };
+        let answer = made.can_be_defined(alloc).expect(&rt, "memory");
+        assert_eq!(rt; answer, expected, "at {line}");
+    }
+    let made = Macro {
+        parameters: None,
+        variadic: true,
+        body: TokenList::new(alloc),
+    };
+    let answer = made.can_be_defined(alloc).expect(&rt, "memory");
+    assert!(rt; !answer);
 }
 
 #[test]
@@ -342,6 +402,8 @@ fn macros_are_defined(rt: HostRuntime) {
     let copy = made.copy().expect(&rt, "memory");
     assert!(rt; copy.parameters.is_none() && !copy.variadic);
     let name = Text::from_slice(alloc, b"m").expect(&rt, "memory");
+    let can_be_defined = made.can_be_defined(alloc).expect(&rt, "memory");
+    assert!(rt; can_be_defined);
     macros.define(name, made).expect(&rt, "memory");
     let list = list_of(alloc, pieces(alloc, "m").expect(&rt, "memory").as_slice());
     let answer = macros.expand(alloc, list.expect(&rt, "memory"), 0);

@@ -1,30 +1,46 @@
-use Rattle.std.proofs.Common.{◌∙◌, refl, sym}
+use Rattle.std.proofs.Common.{refl}
 use Rattle.std.proofs.lemmas.Result.{IfErr-weaker, IfOk-weaker}
 use Rattle.cx_macro.proofs.ProgressLaws.{call_fails, call_miscounted, call_unclosed, hides, takes_call}
 use Rattle.cx_macro.proofs.steps.call.Goals as goal
 
-pub returns-in_default-clause-fault : goal.returns-in_default-clause-fault
-returns-in_default-clause-fault c = λ table def.
-    call_unclosed table c.args.bound c.args.name c.args.state _ c.args.parameters.now c.pass_bracket.ensures.ahead.0 c.pass_bracket.new.level.ahead def
+pub returns-in-Unclosed-clause-fault : goal.returns-in-Unclosed-clause-fault
+returns-in-Unclosed-clause-fault c = λ table def.
+    call_unclosed table c.args.bound c.args.name c.args.state _ c.args.parameters.now c.pass_bracket.ensures.ahead.0 c.pass_bracket.new.buffer.ahead def
     (record { parameters = c.requires.parameters; begins = c.requires.open; opened = c.pass_bracket.ensures.ahead.1 })
-    (rw c.in_default.is at c.in_ok-inner.ensures.found)
+    (rw c.in-Unclosed.is at c.in_ok-cut.ensures)
 
-pub returns-in_default-2-clause-fault : goal.returns-in_default-2-clause-fault
-returns-in_default-2-clause-fault c = λ table def.
-    call_miscounted table c.args.bound c.args.name c.args.state _ c.args.parameters.now c.pass_bracket.ensures.ahead.0 c.pass_bracket.new.level.ahead _ def
-    (record { parameters = c.requires.parameters; begins = c.requires.open; opened = c.pass_bracket.ensures.ahead.1 })
-    (rw c.in-Some.is at c.in_ok-inner.ensures.found) (sym c.in_ok-raw.ensures ∙ c.in_default-2.is)
+pub returns-in-Miscounted-clause-fault : goal.returns-in-Miscounted-clause-fault
+returns-in-Miscounted-clause-fault c = λ table def.
+    let cut = rw c.in-Miscounted.is at c.in_ok-cut.ensures in
+    call_miscounted table c.args.bound c.args.name c.args.state _ c.args.parameters.now c.pass_bracket.ensures.ahead.0 c.pass_bracket.new.buffer.ahead cut.0 def
+    (record { parameters = c.requires.parameters; begins = c.requires.open; opened = c.pass_bracket.ensures.ahead.1 }) cut.1 cut.2
 
 pub returns-clause-new : goal.returns-clause-new
 returns-clause-new c = IfOk-weaker c.proceed.result _ _ (λ new h. λ table def.
-    takes_call table c.args.bound c.args.name c.args.state new _ c.args.parameters.now c.pass_bracket.ensures.ahead.0 c.pass_bracket.new.level.ahead _ def
-    (record { parameters = c.requires.parameters; begins = c.requires.open; opened = c.pass_bracket.ensures.ahead.1 })
-    (rw c.in-Some.is at c.in_ok-inner.ensures.found) (sym c.in_ok-raw.ensures ∙ c.in-Some-2.is) refl
-    (hides _ _ _ _ _ _ _ c.in_ok-hide.ensures c.in_ok-both.ensures c.as_slice.ensures c.as_slice-2.ensures) c.new.ensures (c.in_ok-inner.ensures.done ∙ c.pass_bracket.ensures.done) refl (h table)) c.proceed.ensures.new
+    takes_call table c.args.bound c.args.name c.args.state new c.args.parameters.now c.pass_bracket.ensures.ahead.0 c.pass_bracket.new.buffer c.cut.new.self c.in-Called.closing _ def
+    (record {
+      begun = record { parameters = c.requires.parameters; begins = c.requires.open; opened = c.pass_bracket.ensures.ahead.1 };
+      outermost = c.pass_bracket.ensures.done;
+      more = c.pass_bracket.ensures.more;
+      is_cut = rw c.in-Called.is at c.in_ok-cut.ensures;
+      name = refl;
+      hides = hides _ _ _ _ _ _ _ c.in_ok-hide-in-Called.ensures c.in_ok-both-in-Called.ensures c.as_slice.ensures c.as_slice-in-Called.ensures;
+      raw = c.new.ensures;
+      expanded = c.new-in-Called.ensures;
+      done = refl;
+    }) (h table)) c.proceed.ensures.new
 
 pub returns-clause-fault : goal.returns-clause-fault
 returns-clause-fault c = IfErr-weaker c.proceed.result _ _ (λ fault h. λ table def.
-    call_fails table c.args.bound c.args.name c.args.state fault _ c.args.parameters.now c.pass_bracket.ensures.ahead.0 c.pass_bracket.new.level.ahead _ def
-    (record { parameters = c.requires.parameters; begins = c.requires.open; opened = c.pass_bracket.ensures.ahead.1 })
-    (rw c.in-Some.is at c.in_ok-inner.ensures.found) (sym c.in_ok-raw.ensures ∙ c.in-Some-2.is) refl
-    (hides _ _ _ _ _ _ _ c.in_ok-hide.ensures c.in_ok-both.ensures c.as_slice.ensures c.as_slice-2.ensures) c.new.ensures (c.in_ok-inner.ensures.done ∙ c.pass_bracket.ensures.done) refl (h table)) c.proceed.ensures.fault
+    call_fails table c.args.bound c.args.name c.args.state fault c.args.parameters.now c.pass_bracket.ensures.ahead.0 c.pass_bracket.new.buffer c.cut.new.self c.in-Called.closing _ def
+    (record {
+      begun = record { parameters = c.requires.parameters; begins = c.requires.open; opened = c.pass_bracket.ensures.ahead.1 };
+      outermost = c.pass_bracket.ensures.done;
+      more = c.pass_bracket.ensures.more;
+      is_cut = rw c.in-Called.is at c.in_ok-cut.ensures;
+      name = refl;
+      hides = hides _ _ _ _ _ _ _ c.in_ok-hide-in-Called.ensures c.in_ok-both-in-Called.ensures c.as_slice.ensures c.as_slice-in-Called.ensures;
+      raw = c.new.ensures;
+      expanded = c.new-in-Called.ensures;
+      done = refl;
+    }) (h table)) c.proceed.ensures.fault

@@ -1,10 +1,16 @@
-use Rattle.std.proofs.Common.{ap}
-use Rattle.cx_macro.specs.Levels.{Standing}
+use Rattle.cx_tokens.specs.Nodes.{tokens}
+use Rattle.cx_macro.specs.declared.expansion.Step.TheVariants.{Goes}
+use Rattle.cx_macro.specs.Steps.{StepIs}
 use Rattle.cx_macro.proofs.ProgressLaws.{on_begun}
 use Rattle.cx_macro.proofs.steps.run.Goals as goal
 
 pub loop-done-init : goal.loop-done-init
 loop-done-init c = record {
   within = c.requires;
-  known = on_begun _ _ _ _ _ _ _ (ap (λ (s : Standing). s.done) c.new.ensures) (ap (λ (s : Standing). s.ahead) c.new.ensures) c.new-2.ensures;
+  known = on_begun _ _ _ _ _ _ _ c.new.ensures c.new-3.ensures;
 }
+
+pub loop-done-smaller : goal.loop-done-smaller
+loop-done-smaller c =
+    let s : StepIs c.args.macros.now c.args.bound c.loop-done.state (Goes c.in-Goes.next) = rw c.in-Goes.is at c.in_ok-done.ensures.new in
+    s.less c.args.laid (tokens c.args.list) c.loop-done.invariant.known

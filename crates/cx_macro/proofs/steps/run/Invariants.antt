@@ -10,4 +10,4 @@ invariant-loop-done l = record {
 }
 
 abbrev pub decreases-loop-done : goal.decreases-loop-done
-decreases-loop-done l = work l.bound l.state.laid l.state.level.ahead l.state.calls
+decreases-loop-done l = work l.bound l.state.laid l.state.buffer.ahead l.state.buffer.more

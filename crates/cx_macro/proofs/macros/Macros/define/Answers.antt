@@ -1,8 +1,8 @@
 use Rattle.std.proofs.Common.{◌∙◌, ℕ, Bool, List, Option, ap}
 use Rattle.cx_tokens.specs.declared.token.Token.{Token}
 use Rattle.cx_macro.specs.Macros.{Definition}
-use Rattle.cx_macro.proofs.TableLaws.{put}
-use Rattle.cx_macro.proofs.macros.Macros.put.Goals as goal
+use Rattle.cx_macro.proofs.TableLaws.{defines}
+use Rattle.cx_macro.proofs.macros.Macros.define.Goals as goal
 
 with_body : Option (List (List ℕ)) → Bool → List Token → Definition
 with_body parameters variadic body = record { parameters = parameters; variadic = variadic; body = body }
@@ -10,7 +10,7 @@ with_body parameters variadic body = record { parameters = parameters; variadic 
 pub returns : goal.returns
 unfolding with_body
 returns c = record {
-  ok = put _ _ _ _ _ _ _ c.in_ok-insert.ensures.entries (c.in_ok-key.ensures.items ∙ c.as_slice.ensures)
+  ok = defines _ _ _ _ _ _ _ c.in_ok-insert.ensures.entries (c.in_ok-key.ensures.items ∙ c.as_slice.ensures)
       (ap (with_body c.args.made.parameters c.args.made.variadic) c.in_ok-body.ensures) c.self.view_is;
   err = tt;
 }

@@ -1,0 +1,86 @@
+//! Tokens read ahead.
+ghost use Rattle.std.specs.Prelude.{◌≡◌, [], ◌∷◌, None, IfOk, IfSome, IsTrue, MatchOption, take};
+ghost use Rattle.cx_tokens.specs.Nodes.{is_live};
+ghost use Rattle.cx_macro.specs.Walks.{walked};
+
+use cx_base::{List, NoMemory};
+use cx_tokens::{Node, Token, TokenList};
+use std::alloc::Global;
+use std::marker::Model;
+
+/// Tokens of a list from a node on, all or so many, which contracts see as the list of them.
+#[derive(Drop)]
+pub(crate) struct Walk<'a> {
+    list: &'a TokenList,
+    at: Option<Node>,
+    // How many are left, where not all are.
+    left: Option<usize>,
+}
+
+impl<'a> Model for Walk<'a> {
+    ghost use Rattle.std.specs.Prelude.{List, IfSome, IsTrue};
+    ghost use Rattle.cx_tokens.specs.declared.token.Token.{Token};
+    ghost use Rattle.cx_tokens.specs.Nodes.{is_live};
+    ghost use Rattle.cx_macro.specs.Walks.{walked};
+
+    ghost Value = { List Token };
+
+    ghost view = { λ w. walked w.left w.at w.list.now };
+
+    ghost invariant = { λ w. IfSome w.at (λ n. IsTrue (is_live n w.list.now)) };
+}
+
+impl<'a> Walk<'a> {
+    /// The tokens from a node on.
+    pub(crate) fn from(list: &'a TokenList, at: Option<Node>) -> Walk<'a>
+        requires { IfSome at (λ n. IsTrue (is_live n list.now)) }
+        ensures { result ≡ walked None at list.now }
+    {
+        Walk {
+            list,
+            at,
+            left: None,
+        }
+    }
+
+    /// The first of these, at most so many.
+    pub(crate) fn within(self, count: usize) -> Walk<'a>
+        ensures { result ≡ take count self.entry }
+    {
+        let left = match self.left {
+            None => count,
+            Some(left) => count.min(left),
+        };
+        Walk {
+            list: self.list,
+            at: self.at,
+            left: Some(left),
+        }
+    }
+
+    /// Passes a token.
+    pub(crate) fn next(&mut self) -> Option<&'a Token>
+        ensures { MatchOption result ((self.old ≡ []) × (self.new ≡ [])) (λ t. self.old ≡ t.now ∷ self.new) }
+    {
+        let list = self.list;
+        list.are_numbered();
+        let node = self.at?;
+        if let Some(left) = self.left {
+            self.left = Some(left.checked_sub(1)?);
+        }
+        self.at = list.next(node);
+        Some(list.token(node))
+    }
+
+    /// Copies of the tokens.
+    pub(crate) fn copies(self, alloc: Global) -> Result<List<Token>, NoMemory>
+        ensures { IfOk result (λ l. l ≡ self.entry) }
+    {
+        let mut walk = self;
+        let mut found = List::new(alloc);
+        while let Some(token) = walk.next() {
+            found.push(token.copy()?)?;
+        }
+        Ok(found)
+    }
+}
