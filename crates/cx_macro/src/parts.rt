@@ -180,21 +180,11 @@ pub(crate) fn parts_of(
     Ok(out)
 }
 
-/// Whether an index is that of a parameter.
-fn is_index(index: usize, parameter: Option<usize>) -> bool
-    ensures { result ≡ meaning.is_index index parameter }
-{
-    match parameter {
-        None => false,
-        Some(parameter) => index == parameter,
-    }
-}
-
 /// Whether a token of the body is the parameter with an index, and not beside a `##`.
 fn is_plain(stored: &Stored, index: usize, before: Before, token: &Token, rest: &[Token]) -> bool
     ensures { result ≡ (meaning.is_index index (macros.parameter_at (definition_of stored.now) token.now) && not (meaning.is_beside (behind_of before.entry) rest.now)) }
 {
-    is_index(index, stored.parameter_at(token)) && !is_beside(before, rest)
+    stored.is_parameter(token, index) && !is_beside(before, rest)
 }
 
 /// What stands before the next token, where a token does not want the argument with an index
@@ -252,7 +242,7 @@ fn passed_raw<'a>(
 ) -> Option<Before<'a>>
     ensures { MatchOption result (is_raw (definition_of stored.now) index (behind_of before.entry) (token.now ∷ rest.now) ≡ true) (λ next. is_raw (definition_of stored.now) index (behind_of before.entry) (token.now ∷ rest.now) ≡ is_raw (definition_of stored.now) index (behind_of next) rest.now) }
 {
-    let here = is_index(index, stored.parameter_at(token));
+    let here = stored.is_parameter(token, index);
     if let Before::Hash(_) = before {
         return if here { None } else { Some(Before::Other) };
     }

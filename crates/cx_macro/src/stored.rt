@@ -1,8 +1,8 @@
 //! Macros as they are looked up.
-ghost use Rattle.std.specs.Prelude.{◌≡◌, IfOk, bytes_eq, position};
+ghost use Rattle.std.specs.Prelude.{◌≡◌, IfOk, bytes_eq, false, position};
 ghost use Rattle.cx_macro.specs.Expansion.{line_of};
 ghost use Rattle.cx_macro.specs.Macros as macros;
-ghost use Rattle.cx_macro.specs.Replacement.{is_operator};
+ghost use Rattle.cx_macro.specs.Replacement.{is_index, is_operator};
 ghost use Rattle.cx_macro.specs.Stored.{definition_of};
 
 use crate::marks::{is_hash, is_name};
@@ -98,6 +98,27 @@ impl Stored {
                 token.text.as_slice(),
             ),
         }
+    }
+
+    /// Whether a token may be the parameter with an index, by its name: this is told without a
+    /// search among the others.
+    fn may_be(&self, token: &Token, index: usize) -> bool
+        ensures { result ≡ false → is_index index (macros.parameter_at (definition_of self.now) token.now) ≡ false }
+    {
+        let Some(parameters) = &self.parameters else {
+            return false;
+        };
+        match parameters.as_slice().get(index) {
+            Some(name) => is_same(token.text.as_slice(), name.as_slice()),
+            None => true,
+        }
+    }
+
+    /// Whether a token of the body is the parameter with an index.
+    pub(crate) fn is_parameter(&self, token: &Token, index: usize) -> bool
+        ensures { result ≡ is_index index (macros.parameter_at (definition_of self.now) token.now) }
+    {
+        self.may_be(token, index) && self.parameter_at(token) == Some(index)
     }
 
     /// A `#` before a parameter.
