@@ -65,7 +65,7 @@ impl<T> List<T> {
     }
 
     /// The allocator that the list was made with.
-    pub fn allocator(&self) -> Global {
+    pub(crate) fn allocator(&self) -> Global {
         *self.items.allocator()
     }
 }

@@ -1,6 +1,6 @@
 -- What can be defined as a macro.
-use Rattle.std.proofs.Common.{◌≡◌, ℕ, suc, ◌+◌, ◌<◌, Bool, true, false, not, cond, ◌&&◌, ◌||◌, ◌==◌, List, [], ◌∷◌, ◌++◌, map, take, drop, length, position, Option, Some, None, Bor, IfSome, IsTrue, is_some, bytes_eq, if◌then◌else◌, nat_lt, get_or, refl, sym, ◌∙◌, ap, subst, ⊎_elim, arith, append_assoc}
-use Rattle.std.proofs.lemmas.Bool.{both_ways, cases_Bool, or_cases, false_from_ne_true}
+use Rattle.std.proofs.Common.{◌≡◌, ℕ, suc, ◌+◌, ◌<◌, Bool, true, false, not, cond, ◌&&◌, ◌||◌, List, [], ◌∷◌, ◌++◌, map, take, drop, length, position, Option, Some, None, Bor, is_some, bytes_eq, if◌then◌else◌, nat_lt, get_or, refl, sym, ◌∙◌, ap, subst, ⊎_elim, arith}
+use Rattle.std.proofs.lemmas.Bool.{both_ways, cases_Bool, or_cases}
 use Rattle.std.proofs.lemmas.Bool.Decides.{nat_tests}
 use Rattle.std.proofs.lemmas.Cmp.{nat_list_eq_equiv}
 use Rattle.std.proofs.lemmas.List.{map-append, take_more, take-append-drop}
@@ -9,10 +9,8 @@ use Rattle.std.proofs.Math.Seq.{drop-cons}
 use Rattle.std.specs.List.{AllByRecursion, IsDistinct, list_any, position_or_len}
 use Rattle.indexmap.specs.IndexSet.{insert_key}
 use Rattle.cx_tokens.specs.declared.token.Token.{Token}
-use Rattle.cx_tokens.specs.Nodes.{IsTokenList, TokenNode, before, behind, first_of, from_on, is_live, node_of, tokens}
 use Rattle.cx_tokens.specs.Simplified.{is_name}
-use Rattle.cx_tokens.proofs.NodeLaws.{IsNumbered, found, numbered_apart}
-use Rattle.cx_macro.specs.Macros.{Definition, begins_with_parameter, hashes_stand, index_among, index_of, is_hash, parameter_at, variable_name}
+use Rattle.cx_macro.specs.Macros.{Definition, begins_with_parameter, hashes_stand, index_among, index_of, parameter_at, variable_name}
 
 -- ---- names
 
@@ -123,94 +121,6 @@ parameter_is d t keys e =
 
 -- ---- tokens
 
--- the node, where there is one, and those behind it
-abbrev pub ahead_of : Option ℕ → List TokenNode → List TokenNode
-ahead_of None nodes = []
-ahead_of (Some n) nodes = from_on n nodes
-
-same_number : (n : ℕ) → (n == n) ≡ true
-same_number n = grind (arith, nat_tests)
-
-all_ahead : (nodes : List TokenNode) → ahead_of (first_of nodes) nodes ≡ nodes
-unfolding from_on
-all_ahead [] = refl
-all_ahead (x ∷ xs) = ap (λ b. cond b (x ∷ xs) (from_on x.number xs)) (same_number x.number)
-
-from_front : (n : ℕ) (front rest : List TokenNode) → is_live n front ≡ false → from_on n (front ++ rest) ≡ from_on n rest
-unfolding from_on
-from_front n [] rest l = refl
-from_front n (x ∷ xs) rest l =
-    ⊎_elim
-    (λ (e : (x.number == n) ≡ true). absurd (both_ways (is_live n (x ∷ xs)) l (ap (λ b. b || is_live n xs) e)))
-    (λ (e : (x.number == n) ≡ false). rw e (from_front n xs rest (sym (ap (λ b. b || is_live n xs) e) ∙ l)))
-    (cases_Bool (x.number == n))
-
-behind_ahead : (front rest : List TokenNode) → IsNumbered (front ++ rest) → ahead_of (first_of rest) (front ++ rest) ≡ rest
-behind_ahead front [] d = refl
-behind_ahead front (x ∷ xs) d =
-    let apart : is_live x.number front ≡ false = false_from_ne_true (is_live x.number front)
-    (λ e. both_ways (is_live x.number (x ∷ xs)) (numbered_apart front (x ∷ xs) d x.number e) (ap (λ b. b || is_live x.number xs) (same_number x.number))) in
-    from_front x.number front (x ∷ xs) apart ∙ all_ahead (x ∷ xs)
-
-next_ahead : (n : ℕ) (nodes : List TokenNode) → IsNumbered nodes → is_live n nodes ≡ true → ahead_of (first_of (behind n nodes)) nodes ≡ behind n nodes
-next_ahead n nodes d l =
-    let f = found n nodes l in
-    let whole : nodes ≡ (before n nodes ++ f.node ∷ []) ++ behind n nodes = f.whole ∙ sym (append_assoc (before n nodes) (f.node ∷ []) (behind n nodes)) in
-    ap (ahead_of (first_of (behind n nodes))) whole ∙ behind_ahead (before n nodes ++ f.node ∷ []) (behind n nodes) (subst IsNumbered whole d)
-
-token_ahead : (n : ℕ) (nodes : List TokenNode) (t : Token) → is_live n nodes ≡ true → IfSome (node_of n nodes) (λ x. t ≡ x.token)
-    → tokens (from_on n nodes) ≡ t ∷ tokens (behind n nodes)
-token_ahead n nodes t l k =
-    let f = found n nodes l in
-    let token : t ≡ f.node.token = subst (λ o. IfSome o (λ x. t ≡ x.token)) f.is_node k in
-    ap tokens f.from_there ∙ ap (λ x. x ∷ tokens (behind n nodes)) (sym token)
-
-live_at : (nodes : List TokenNode) (at : Option ℕ) (n : ℕ) → IfSome at (λ m. IsTrue (is_live m nodes)) → at ≡ Some n → is_live n nodes ≡ true
-live_at nodes at n l s = subst (λ o. IfSome o (λ m. IsTrue (is_live m nodes))) s l
-
-pub fewer_ahead : (n : ℕ) (nodes : List TokenNode) (at next : Option ℕ) → IsNumbered nodes → IfSome at (λ m. IsTrue (is_live m nodes)) → at ≡ Some n
-    → next ≡ first_of (behind n nodes) → length (ahead_of next nodes) < length (ahead_of at nodes)
-fewer_ahead n nodes at next d l s e =
-    let live : is_live n nodes ≡ true = live_at nodes at n l s in
-    let here = ap (λ o. length (ahead_of o nodes)) s ∙ ap length (found n nodes live).from_there in
-    let there = ap (λ o. length (ahead_of o nodes)) e ∙ ap length (next_ahead n nodes d live) in
-    omega (arith, here, there)
-
 -- what stands behind a `#`, or behind another token
 abbrev pub stand_behind : Definition → Bool → List Token → Bool
 stand_behind d is_behind_hash ts = cond is_behind_hash (begins_with_parameter d ts) true && hashes_stand d ts
-
--- the tokens ahead decide
-pub record Walks (d : Definition) (nodes : List TokenNode) (at : Option ℕ) (is_behind_hash : Bool) : Type 0 where
-  pub live : IfSome at (λ n. IsTrue (is_live n nodes))
-  pub same : hashes_stand d (tokens nodes) ≡ stand_behind d is_behind_hash (tokens (ahead_of at nodes))
-
-pub walk_begins : (d : Definition) (nodes : List TokenNode) (at : Option ℕ) → at ≡ first_of nodes → IfSome at (λ n. IsTrue (is_live n nodes)) → Walks d nodes at false
-walk_begins d nodes at e l = record {
-  live = l;
-  same = sym (ap (λ o. hashes_stand d (tokens (ahead_of o nodes))) e ∙ ap (λ x. hashes_stand d (tokens x)) (all_ahead nodes));
-}
-
-pub walk_next : (d : Definition) (nodes : List TokenNode) (at next : Option ℕ) (n : ℕ) (t : Token) (b c : Bool) → IsTokenList nodes → Walks d nodes at b → at ≡ Some n
-    → IfSome (node_of n nodes) (λ x. t ≡ x.token) → next ≡ first_of (behind n nodes) → IfSome next (λ m. IsTrue (is_live m nodes))
-    → c ≡ is_hash t → cond b (is_some (parameter_at d t)) true ≡ true → Walks d nodes next c
-walk_next d nodes at next n t b c l w s k e lives f h = record {
-  live = lives;
-  same =
-      let live : is_live n nodes ≡ true = live_at nodes at n w.live s in
-      let here : tokens (ahead_of at nodes) ≡ t ∷ tokens (behind n nodes) = ap (λ o. tokens (ahead_of o nodes)) s ∙ token_ahead n nodes t live k in
-      let there : tokens (ahead_of next nodes) ≡ tokens (behind n nodes) = ap (λ o. tokens (ahead_of o nodes)) e ∙ ap tokens (next_ahead n nodes l.distinct live) in
-      w.same ∙ (ap (stand_behind d b) here
-      ∙ (ap (λ x. x && hashes_stand d (t ∷ tokens (behind n nodes))) h
-      ∙ (ap (λ x. cond x (begins_with_parameter d (tokens (behind n nodes))) true && hashes_stand d (tokens (behind n nodes))) (sym f)
-      ∙ ap (stand_behind d c) (sym there))));
-}
-
--- the token behind a `#` is no parameter
-pub walk_fails : (d : Definition) (nodes : List TokenNode) (at : Option ℕ) (n : ℕ) (t : Token) (b : Bool) → Walks d nodes at b → at ≡ Some n
-    → IfSome (node_of n nodes) (λ x. t ≡ x.token) → b ≡ true → is_some (parameter_at d t) ≡ false → hashes_stand d (tokens nodes) ≡ false
-walk_fails d nodes at n t b w s k e h =
-    let live : is_live n nodes ≡ true = live_at nodes at n w.live s in
-    let here : tokens (ahead_of at nodes) ≡ t ∷ tokens (behind n nodes) = ap (λ o. tokens (ahead_of o nodes)) s ∙ token_ahead n nodes t live k in
-    w.same ∙ (ap (stand_behind d b) here
-    ∙ (ap (λ x. stand_behind d x (t ∷ tokens (behind n nodes))) e ∙ ap (λ x. x && hashes_stand d (t ∷ tokens (behind n nodes))) h))

@@ -1,16 +1,19 @@
 -- A list of tokens of which a front is done, and what the edits at the end of that front make of it.
-use Rattle.std.proofs.Common.{◌≡◌, ℕ, Bool, true, false, cond, ◌==◌, ◌||◌, List, [], ◌∷◌, ◌++◌, map, Option, Some, None, refl, sym, ◌∙◌, ap, ap₂, subst, IfSome, ⊎_elim, append_assoc}
+use Rattle.std.proofs.Common.{◌≡◌, ℕ, Bool, true, false, cond, ◌==◌, ◌||◌, List, [], ◌∷◌, ◌++◌, map, Option, Some, None, refl, sym, ◌∙◌, ap, ap₂, subst, IfSome, ⊎_elim, append_assoc, arith}
 use Rattle.std.proofs.lemmas.List.{map-append}
 use Rattle.std.proofs.lemmas.Bool.{cases_Bool, both_ways}
+use Rattle.std.proofs.lemmas.Bool.Decides.{nat_tests}
 use Rattle.cx_tokens.specs.declared.token.Token.{Token}
 use Rattle.cx_tokens.specs.Nodes.{IsTokenList, TokenNode, before, behind, erased, first_of, inserted, is_live, live_partner, node_of, settled, tokens, up_to}
 use Rattle.cx_tokens.proofs.NodeLaws.{IsNumbered, dead_parts, found, live_left, numbered_apart}
 use Rattle.cx_macro.specs.Levels.{nodes_ahead, nodes_done}
-use Rattle.cx_macro.proofs.ListLaws.{same_number}
 
 -- the last node that is done is one of the list
 abbrev pub IsLast : Option ℕ → List TokenNode → Type 0
 IsLast last nodes = IfSome last (λ n. is_live n nodes ≡ true)
+
+same_number : (n : ℕ) → (n == n) ≡ true
+same_number n = grind (arith, nat_tests)
 
 -- a node of a front, with a rest behind it
 up_to_front : (n : ℕ) (front rest : List TokenNode) → is_live n front ≡ true → up_to n (front ++ rest) ≡ up_to n front

@@ -4,8 +4,8 @@ pub mod BoundLaws
 pub mod OutcomeLaws
 pub mod PieceLaws
 pub mod DefinableLaws
+pub mod ExistenceLaws
 pub mod LevelLaws
-pub mod ListLaws
 pub mod PartLaws
 pub mod PastingLaws
 pub mod ProgressLaws

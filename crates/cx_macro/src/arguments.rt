@@ -7,7 +7,7 @@ ghost use Rattle.cx_macro.specs.Segments.{Cuts, CutsText, left_behind};
 
 use crate::marks::{is_close, is_comma, is_open};
 use crate::segment::Segment;
-use crate::walk::Walk;
+use crate::walk::{Walk, one_more};
 use cx_base::NoMemory;
 use cx_tokens::Token;
 use std::alloc::Global;
@@ -57,13 +57,6 @@ pub(crate) fn bracketed<'a>(text: Walk<'a>) -> Result<Option<(usize, &'a Token)>
         inner = one_more(inner)?;
     }
     Ok(None)
-}
-
-/// A number and one more.
-fn one_more(count: usize) -> Result<usize, NoMemory>
-    ensures { IfOk result (λ n. n ≡ count + 1) }
-{
-    count.checked_add(1).ok_or(NoMemory)
 }
 
 /// How many tokens stand before the first comma outside of brackets, and those behind it, where it
@@ -118,18 +111,6 @@ fn named_arguments<'a>(
     Ok(Some(Named { segments, behind }))
 }
 
-/// How many tokens there are.
-fn count<'a>(text: Walk<'a>) -> Result<usize, NoMemory>
-    ensures { IfOk result (λ n. n ≡ length text.entry) }
-{
-    let mut text = text;
-    let mut found: usize = 0;
-    while let Some(_token) = text.next() {
-        found = one_more(found)?;
-    }
-    Ok(found)
-}
-
 /// The segment of the variable argument: empty where no comma stands before it (C11 6.10.3,
 /// paragraph 12).
 fn variable<'a>(behind: Option<Walk<'a>>) -> Result<Segment, NoMemory>
@@ -141,7 +122,7 @@ fn variable<'a>(behind: Option<Walk<'a>>) -> Result<Segment, NoMemory>
             is_ended: false,
         }),
         Some(text) => Ok(Segment {
-            tokens: count(text)?,
+            tokens: text.count()?,
             is_ended: true,
         }),
     }

@@ -9,6 +9,7 @@ ghost use Rattle.cx_macro.specs.Made.{definition_by};
 use crate::macros::Macro;
 use crate::marks::{is_hash, is_name};
 use crate::stored::VARIABLE_NAME;
+use crate::walk::Walk;
 use cx_base::{NoMemory, Text};
 use cx_tokens::Token;
 use indexmap::IndexSet;
@@ -35,16 +36,13 @@ impl Macro {
         requires { self.now.parameters ≡ Some (map (λ name. name.now) names.now.keys) }
         ensures { result ≡ macros.hashes_stand (definition_by self.now) (tokens self.now.body) }
     {
-        self.body.are_numbered();
+        let mut walk = Walk::over(&self.body);
         let mut is_behind_hash = false;
-        let mut at = self.body.first();
-        while let Some(node) = at {
-            let token = self.body.token(node);
+        while let Some(token) = walk.next() {
             if is_behind_hash && !self.is_parameter(names, token) {
                 return false;
             }
             is_behind_hash = is_hash(token);
-            at = self.body.next(node);
         }
         !is_behind_hash
     }

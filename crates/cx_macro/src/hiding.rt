@@ -41,10 +41,14 @@ pub(crate) fn united(names: &List<Text>, others: &[Text]) -> Result<List<Text>, 
 }
 
 /// The names with one more.
-pub(crate) fn with_name(name: &Text, names: &List<Text>) -> Result<List<Text>, NoMemory>
+pub(crate) fn with_name(
+    alloc: Global,
+    name: &Text,
+    names: &List<Text>,
+) -> Result<List<Text>, NoMemory>
     ensures { IfOk result (λ l. l ≡ sets.with_name name.now names.now) }
 {
-    let mut others = List::new(names.allocator());
+    let mut others = List::new(alloc);
     others.push(name.copy()?)?;
     united(names, others.as_slice())
 }

@@ -11,6 +11,11 @@ pub fn one_outcome()
     ensures { (table : Table) (bound laid : ℕ) (list : List Token) (outcome other : Outcome) → ExpandsList table bound laid list outcome → ExpandsList table bound laid list other → outcome ≡ other }
 {}
 
+/// Every list has an outcome, where no more than the bound have been laid before.
+pub fn some_outcome()
+    ensures { (table : Table) (bound laid : ℕ) (list : List Token) → laid ≤ bound → (outcome : Outcome) × ExpandsList table bound laid list outcome }
+{}
+
 /// A list of which no token is replaced is its own expansion.
 pub fn nothing_is_replaced()
     ensures { (table : Table) (bound laid : ℕ) (list : List Token) → All (λ t. definition_at table t ≡ None) list → laid + length list ≤ bound → ExpandsList table bound laid list (expanded list (laid + length list)) }

@@ -2,7 +2,7 @@
 #![tactic(auto)]
 
 pub use fault::MacroFault;
-pub use laws::{nothing_is_replaced, one_outcome, the_bound_is_met};
+pub use laws::{nothing_is_replaced, one_outcome, some_outcome, the_bound_is_met};
 pub use macros::{Expanded, Macro, Macros};
 
 mod arguments;
@@ -14,7 +14,6 @@ mod fault;
 mod hiding;
 mod laws;
 mod level;
-mod lists;
 mod macros;
 mod marks;
 mod parts;

@@ -8,9 +8,9 @@ ghost use Rattle.cx_macro.specs.Made.{definition_by};
 ghost use Rattle.cx_macro.specs.Stored.{definition_of};
 
 use crate::fault::MacroFault;
-use crate::lists::{first_of, length_of, tokens_of};
 use crate::steps::run;
 use crate::stored::Stored;
+use crate::walk::Walk;
 use cx_base::{List, NoMemory, Text};
 use cx_tokens::{Token, TokenList};
 use indexmap::IndexMap;
@@ -101,7 +101,7 @@ impl Macros {
         ensures err { OnErr result (self.new ≡ self.old) }
     {
         let key = Vec::from_slice(self.alloc, name.as_slice())?;
-        let body = tokens_of(self.alloc, &made.body)?;
+        let body = Walk::over(&made.body).copies(self.alloc)?;
         let stored = Stored {
             parameters: made.parameters,
             variadic: made.variadic,
@@ -179,10 +179,11 @@ fn first_laid(bound: u32, laid: u32, list: &TokenList) -> Result<u32, MacroFault
     ensures within { IfOk result (λ n. (n ≡ laid + length (tokens list.now)) × (n ≤ bound)) }
     ensures fault { IfErr result (λ fault. (table : Table) → fault ≢ MacroFault.NoMemory → ExpandsList table bound laid (tokens list.now) (refused fault)) }
 {
-    let Some(token) = first_of(list) else {
+    let Some(token) = Walk::over(list).next() else {
         return Ok(laid);
     };
-    let total = length_of(list)?
+    let length = Walk::over(list).count()? as u64;
+    let total = length
         .checked_add(u64::from(laid))
         .ok_or(MacroFault::NoMemory)?;
     if total <= u64::from(bound) {

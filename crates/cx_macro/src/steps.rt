@@ -80,7 +80,7 @@ fn replace<'a>(
         raw: &[],
         expanded: &[],
     };
-    let hide = with_name(&name.text, &name.hide)?;
+    let hide = with_name(alloc, &name.text, &name.hide)?;
     let news = replacement(alloc, stored, none, &name, &hide)?;
     let mut state = state;
     state.laid = count(state.laid, bound, &name, news.as_slice())?;
@@ -139,7 +139,7 @@ fn call<'a>(
             arguments,
         } => {
             let both = common(alloc, name.hide.as_slice(), closing.as_slice())?;
-            let hide = with_name(&name.text, &both)?;
+            let hide = with_name(alloc, &name.text, &both)?;
             let call = Call {
                 name,
                 stored,

@@ -2,6 +2,7 @@
 use crate::fault::MacroFault;
 use crate::level::Level;
 use crate::macros::{Expanded, Macro, Macros};
+use crate::walk::Walk;
 use cx_base::{List, NoMemory, Text};
 use cx_lex::{Piece, lex};
 use cx_tokens::{Kind, Token, TokenList};
@@ -265,7 +266,7 @@ fn shown_fault(alloc: Global, fault: MacroFault) -> Result<String, AllocError> {
 
 fn shown_list(alloc: Global, list: &TokenList) -> Result<String, AllocError> {
     let mut shown = String::new(alloc);
-    let Ok(tokens) = crate::lists::tokens_of(alloc, list) else {
+    let Ok(tokens) = Walk::over(list).copies(alloc) else {
         return format!(in alloc; "memory");
     };
     for token in tokens.as_slice() {

@@ -1,12 +1,19 @@
 //! Tokens read ahead.
-ghost use Rattle.std.specs.Prelude.{◌≡◌, [], ◌∷◌, None, IfOk, IfSome, IsTrue, MatchOption, take};
-ghost use Rattle.cx_tokens.specs.Nodes.{is_live};
+ghost use Rattle.std.specs.Prelude.{◌≡◌, ◌+◌, [], ◌∷◌, None, IfOk, IfSome, IsTrue, MatchOption, length, take};
+ghost use Rattle.cx_tokens.specs.Nodes.{is_live, tokens};
 ghost use Rattle.cx_macro.specs.Walks.{walked};
 
 use cx_base::{List, NoMemory};
 use cx_tokens::{Node, Token, TokenList};
 use std::alloc::Global;
 use std::marker::Model;
+
+/// A number and one more.
+pub(crate) fn one_more(count: usize) -> Result<usize, NoMemory>
+    ensures { IfOk result (λ n. n ≡ count + 1) }
+{
+    count.checked_add(1).ok_or(NoMemory)
+}
 
 /// Tokens of a list from a node on, all or so many, which contracts see as the list of them.
 #[derive(Drop)]
@@ -31,6 +38,14 @@ impl<'a> Model for Walk<'a> {
 }
 
 impl<'a> Walk<'a> {
+    /// All tokens of a list.
+    pub(crate) fn over(list: &'a TokenList) -> Walk<'a>
+        ensures { result ≡ tokens list.now }
+    {
+        list.are_numbered();
+        Walk::from(list, list.first())
+    }
+
     /// The tokens from a node on.
     pub(crate) fn from(list: &'a TokenList, at: Option<Node>) -> Walk<'a>
         requires { IfSome at (λ n. IsTrue (is_live n list.now)) }
@@ -70,6 +85,18 @@ impl<'a> Walk<'a> {
         }
         self.at = list.next(node);
         Some(list.token(node))
+    }
+
+    /// How many tokens there are.
+    pub(crate) fn count(self) -> Result<usize, NoMemory>
+        ensures { IfOk result (λ n. n ≡ length self.entry) }
+    {
+        let mut walk = self;
+        let mut found: usize = 0;
+        while let Some(_token) = walk.next() {
+            found = one_more(found)?;
+        }
+        Ok(found)
     }
 
     /// Copies of the tokens.

@@ -139,7 +139,7 @@ fn sink_of(alloc: Global, taking: Taking) -> Result<MemorySink, Fail> {
 }
 
 /// Runs a case over these files, and compares what it gave.
-pub fn try_case(
+pub(crate) fn try_case(
     rt: &impl Abort,
     alloc: Global,
     case: &Case,

@@ -1,8 +1,8 @@
 use Rattle.std.proofs.Common.{◌≡◌, ◌+◌, length}
-use Rattle.cx_macro.proofs.arguments.count.Given as goal
+use Rattle.cx_macro.proofs.walk.Walk.count.Given as goal
 
 abbrev pub invariant-loop-token : goal.invariant-loop-token
-invariant-loop-token l = l.found + length l.text ≡ length l.initial.text
+invariant-loop-token l = l.found + length l.walk ≡ length l.initial.walk
 
 abbrev pub decreases-loop-token : goal.decreases-loop-token
-decreases-loop-token l = length l.text
+decreases-loop-token l = length l.walk
