@@ -1,18 +1,26 @@
 -- What a sink holds after one more write.
 use Rattle.std.proofs.Common.{◌≡◌, ℕ, ◌+◌, ◌-◌, ◌≤◌, List, ◌++◌, take, drop, length, Option, Some, None, take-add, append_assoc, ap, sym, ◌∙◌, arith, take-take, subst, length-drop}
+use Rattle.std.specs.Prelude.{IfSome}
 use Rattle.std.proofs.lemmas.List.{length-take}
-use Rattle.cx_base.specs.Outside.{Appends}
+use Rattle.cx_base.specs.Outside.{SinkState, Appends}
 
 some_same : {b m : List ℕ} → Some b ≡ Some m → b ≡ m
 some_same e = cc
 
--- two appends one behind the other
-pub appends_both : (before middle after : Option (List ℕ)) (front back : List ℕ)
-    → Appends before middle front → Appends middle after back → Appends before after (front ++ back)
-appends_both None middle after front back p q = tt
-appends_both (Some b) None after front back p q = absurd (cc)
-appends_both (Some b) (Some m) after front back p q =
+held_both : (before middle after : Option (List ℕ)) (front back : List ℕ)
+    → IfSome before (λ held. middle ≡ Some (held ++ front))
+    → IfSome middle (λ held. after ≡ Some (held ++ back))
+    → IfSome before (λ held. after ≡ Some (held ++ (front ++ back)))
+held_both None middle after front back p q = tt
+held_both (Some b) None after front back p q = absurd (cc)
+held_both (Some b) (Some m) after front back p q =
     q ∙ ap (λ l. Some (l ++ back)) (some_same p) ∙ ap Some (append_assoc b front back)
+
+-- two appends, one after the other
+pub appends_both : (before middle after : SinkState) (front back : List ℕ)
+    → Appends before middle front → Appends middle after back → Appends before after (front ++ back)
+appends_both before middle after front back p q =
+    held_both before.holds middle.holds after.holds front back p q
 
 taken_length : (bytes : List ℕ) (done : ℕ) → length (take (length bytes - done) (drop done bytes)) ≡ length bytes - done
 taken_length bytes done = simp (length-take, length-drop) (omega arith)
@@ -22,7 +30,7 @@ taken_more : (bytes : List ℕ) (done n : ℕ) → n ≤ length bytes - done
 taken_more bytes done n h = rw (take-take n (length bytes - done) (drop done bytes) h) (sym (take-add done n bytes))
 
 -- one more front taken of what is left
-pub took_next : (before middle after : Option (List ℕ)) (bytes : List ℕ) (done n : ℕ) → done ≤ length bytes
+pub took_next : (before middle after : SinkState) (bytes : List ℕ) (done n : ℕ) → done ≤ length bytes
     → n ≤ length (take (length bytes - done) (drop done bytes))
     → Appends before middle (take done bytes)
     → Appends middle after (take n (take (length bytes - done) (drop done bytes)))

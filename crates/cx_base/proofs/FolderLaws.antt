@@ -5,11 +5,11 @@ use Rattle.std.specs.Str.{IsCharBoundary}
 use Rattle.std.specs.Str.Pattern.{FindsTextPrefix, StripsPrefix}
 use Rattle.std.proofs.lemmas.Str.Pattern.{starts_text, split_once_first, split_parts, IsSplitOnceResult}
 use Rattle.std.proofs.Math.Seq.{take-length}
-use Rattle.cx_base.specs.Folders.{behind, is_slash}
+use Rattle.cx_base.specs.Folders.{rest_after, is_slash}
 
 pub strips : (front text : List ℕ) (r : Option (Bor (List ℕ)))
     → MatchOption r (FindsTextPrefix front text None) (λ x. StripsPrefix (FindsTextPrefix front) text x.now)
-    → MatchOption r (behind front text ≡ None) (λ rest. behind front text ≡ Some rest.now)
+    → MatchOption r (rest_after front text ≡ None) (λ rest. rest_after front text ≡ Some rest.now)
 strips front text None lacks =
     let e : starts_with nat_eq text front ≡ false = sym (starts_text false front text lacks) in rw e refl
 strips front text (Some x) h =

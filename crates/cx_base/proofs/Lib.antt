@@ -1,5 +1,7 @@
+mod Examples
 pub mod FolderLaws
 pub mod MemberLaws
 pub mod PlaceLaws
-pub mod CountLaws
+pub mod SimpleLaws
+pub mod CauseLaws
 pub mod AppendLaws

@@ -1,5 +1,6 @@
 -- The list of members has each member of the folder, once and in order.
-use Rattle.std.proofs.Common.{◌≡◌, ℕ, List, [], ◌∷◌, Option, Some, None, Bool, true, false, refl, sym, ap, ◌∙◌, ◌⊎◌, ⊎_elim, inl, inr, ◌↔◌}
+use Rattle.std.proofs.Common.{◌≡◌, ℕ, List, [], ◌∷◌, Option, Some, None, Bool, true, false, refl, sym, ap, ◌∙◌, ◌⊎◌, ⊎_elim, inl, inr, ◌↔◌, arith, suc, zero, subst}
+use Rattle.std.specs.List.{Contains}
 use Rattle.std.specs.Ordering.{ordering_then, ordering_reverse, nat_cmp, bool_cmp}
 use Rattle.std.specs.Cmp.Lexicographic.{slice_cmp, nat_list_cmp_total}
 use Rattle.std.specs.Cmp.{bool_cmp_total}
@@ -8,8 +9,42 @@ use Rattle.std.specs.declared.cmp.Ordering.{Ordering}
 use Rattle.std.specs.declared.cmp.Ordering.TheVariants.{Less, Equal, Greater}
 use Rattle.cx_base.specs.declared.answers.Entry.{Entry}
 use Rattle.cx_base.specs.declared.answers.Stored.{Stored}
-use Rattle.cx_base.specs.Folders.{entry_at, entry_cmp, IsOrdered, Has, LeadsTo, AreMembers}
-use Rattle.cx_base.specs.Members.{added, placed, with_entry, members_with}
+use Rattle.cx_base.specs.Folders.{entry_at, entry_cmp, IsOrdered, LeadsTo, AreMembers}
+use Rattle.cx_base.specs.Shapes.Members.{added, placed, with_entry, members_with}
+
+-- the entry stands in the list, by recursion
+abbrev Has : List Entry → Entry → Type 0
+Has [] entry = ⊥
+Has (first ∷ rest) entry = (entry ≡ first) ⊎ Has rest entry
+
+has_from : (entries : List Entry) (entry : Entry) → Contains entries entry → Has entries entry
+has_from [] entry h = absurd (omega (arith, h.1))
+has_from (first ∷ rest) entry (zero, below, is) = inl (sym is)
+has_from (first ∷ rest) entry (suc k, below, is) = inr (has_from rest entry (k, omega (arith, below), is))
+
+has_to : (entries : List Entry) (entry : Entry) → Has entries entry → Contains entries entry
+has_to [] entry h = absurd h
+has_to (first ∷ rest) entry h =
+    ⊎_elim (λ e. (0, omega arith, sym e))
+    (λ r. let at = has_to rest entry r in (suc at.0, omega (arith, at.1), at.2)) h
+
+-- some file's path leads to this member of a folder, by recursion
+abbrev Leads : List Stored → List ℕ → Entry → Type 0
+Leads [] folder entry = ⊥
+Leads (file ∷ files) folder entry = (entry_at folder file.path ≡ Some entry) ⊎ Leads files folder entry
+
+leads_from : (files : List Stored) (folder : List ℕ) (entry : Entry) → LeadsTo files folder entry → Leads files folder entry
+leads_from [] folder entry h = absurd (omega (arith, h.2))
+leads_from (file ∷ files) folder entry (zero, found, below, is, leads) =
+    inl (subst (λ s. entry_at folder s.path ≡ Some entry) (sym is) leads)
+leads_from (file ∷ files) folder entry (suc k, found, below, is, leads) =
+    inr (leads_from files folder entry (k, found, omega (arith, below), is, leads))
+
+leads_to : (files : List Stored) (folder : List ℕ) (entry : Entry) → Leads files folder entry → LeadsTo files folder entry
+leads_to [] folder entry h = absurd h
+leads_to (file ∷ files) folder entry h =
+    ⊎_elim (λ e. (0, file, omega arith, refl, e))
+    (λ r. let at = leads_to files folder entry r in (suc at.0, at.1, omega (arith, at.2), at.3, at.4)) h
 
 -- the cases of an addition to a list that is not empty
 added_ways : (P : List Entry → Type 0) (entry other : Entry) (others : List Entry)
@@ -69,7 +104,7 @@ has_added entry (other ∷ others) some =
       λ h. ⊎_elim (λ s. inr (later.1 (inl s))) (λ s. ⊎_elim (λ t. inl t) (λ t. inr (later.1 (inr t))) s) h,
     ))
 
--- an ordered list behind an entry that stands before its first
+-- an entry that stands before the first of an ordered list
 IsBefore : Entry → List Entry → Type 0
 IsBefore entry [] = Unit {0}
 IsBefore entry (first ∷ rest) = entry_cmp entry first ≡ Less
@@ -118,7 +153,7 @@ ordered_with None entries o = o
 ordered_with (Some entry) entries o = ordered_added entry entries o
 
 has_members : (entries : List Entry) (files : List Stored) (folder : List ℕ) (some : Entry)
-    → Has (members_with entries files folder) some ↔ (LeadsTo files folder some ⊎ Has entries some)
+    → Has (members_with entries files folder) some ↔ (Leads files folder some ⊎ Has entries some)
 has_members entries [] folder some = (λ h. inr h, λ h. ⊎_elim (λ s. absurd s) (λ s. s) h)
 has_members entries (file ∷ files) folder some =
     let found = entry_at folder file.path in
@@ -131,8 +166,10 @@ has_members entries (file ∷ files) folder some =
 -- the list made from nothing has the members of the folder
 pub are_members : (files : List Stored) (folder : List ℕ) → AreMembers files folder (members_with [] files folder)
 are_members files folder some =
-    let h = has_members [] files folder some in
-    (λ g. ⊎_elim (λ s. s) (λ s. absurd s) (h.0 g), λ g. h.1 (inl g))
+    let h = has_members [] files folder some in (
+      λ g. leads_to files folder some (⊎_elim (λ s. s) (λ s. absurd s) (h.0 (has_from (members_with [] files folder) some g))),
+      λ g. has_to (members_with [] files folder) some (h.1 (inl (leads_from files folder some g))),
+    )
 
 ordered_from : (entries : List Entry) (files : List Stored) (folder : List ℕ) → IsOrdered entries → IsOrdered (members_with entries files folder)
 ordered_from entries [] folder o = o

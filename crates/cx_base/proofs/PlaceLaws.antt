@@ -4,7 +4,7 @@ use Rattle.std.proofs.lemmas.List.{take-append-drop, drop_all}
 use Rattle.std.specs.declared.cmp.Ordering.TheVariants.{Less, Equal, Greater}
 use Rattle.cx_base.specs.declared.answers.Entry.{Entry}
 use Rattle.cx_base.specs.Folders.{entry_cmp}
-use Rattle.cx_base.specs.Members.{added, placed}
+use Rattle.cx_base.specs.Shapes.Members.{added, placed}
 
 module _ (entry other : Entry) (entries : List Entry) (at : ℕ) (below : at < length entries) (is : other ≡ get_or entries at other) where
   next : drop at entries ≡ other ∷ drop (at + 1) entries

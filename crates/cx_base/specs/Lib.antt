@@ -2,8 +2,8 @@ pub mod Calls
 pub mod Faults
 pub mod Findings
 pub mod Folders
-pub mod Members
 pub mod Memory
 pub mod Outside
+pub mod Shapes
 pub mod Simple
 pub mod Sinks

@@ -1,5 +1,5 @@
-//! Bytes, as a file or an output holds them.
-ghost use Rattle.std.specs.Prelude.{◌≡◌, [], ◌++◌, decimal, length, IfOk, OnOk, OnErr};
+//! Runs of bytes: of a file, of an output, of a name or of a piece of a source.
+ghost use Rattle.std.specs.Prelude.{◌≡◌, [], ◌∷◌, ◌++◌, decimal, length, take, IfOk, OnOk, OnErr};
 
 use crate::errors::NoMemory;
 use crate::list::Duplicate;
@@ -7,11 +7,14 @@ use itoa::Buffer;
 use std::alloc::Global;
 use std::marker::Model;
 
-/// A growable run of bytes, which contracts see as the list of them.
+/// A growable run of bytes, of any encoding, which contracts see as the list of them.
 #[derive(Debug, Drop)]
 pub struct Bytes {
     bytes: Vec<u8>,
 }
+
+/// The bytes of a name or of a piece of a source.
+pub type Text = Bytes;
 
 impl Model for Bytes {
     ghost use Rattle.std.specs.Prelude.{List, ℕ};
@@ -56,6 +59,22 @@ impl Bytes {
         ensures { result ≡ length self.now }
     {
         self.bytes.len()
+    }
+
+    /// Adds a byte at the end; a refused call changes nothing.
+    pub fn push(&mut self, byte: u8) -> Result<(), NoMemory>
+        ensures ok { OnOk result (self.new ≡ self.old ++ byte ∷ []) }
+        ensures err { OnErr result (self.new ≡ self.old) }
+    {
+        self.bytes.push(byte)?;
+        Ok(())
+    }
+
+    /// Keeps so many bytes at most, those in front.
+    pub fn truncate(&mut self, length: usize)
+        ensures { self.new ≡ take length self.old }
+    {
+        self.bytes.truncate(length);
     }
 
     /// Adds the bytes at the end; a refused call changes nothing.

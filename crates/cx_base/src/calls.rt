@@ -1,6 +1,6 @@
 //! The calls on an object in memory, and which of them fail.
 ghost use Rattle.std.specs.Prelude.{◌≡◌, ◌==◌};
-ghost use Rattle.cx_base.specs.Calls.{next_fails, one_more};
+ghost use Rattle.cx_base.specs.Calls.{next_fails, one_more_call};
 ghost use Rattle.std.specs.List.{list_any};
 
 use crate::list::List;
@@ -37,13 +37,14 @@ impl CallCount {
 
     /// Counts a call.
     pub(crate) fn count(&mut self)
-        ensures { self.new ≡ one_more self.old }
+        ensures { self.new ≡ one_more_call self.old }
     {
         self.made = self.made.saturating_add(1);
     }
 }
 
-fn contains(numbers: &[u64], number: u64) -> bool
+/// Whether a number is among these.
+pub(crate) fn contains(numbers: &[u64], number: u64) -> bool
     ensures { result ≡ list_any (λ n. n == number) numbers.now }
 {
     numbers.iter().any(|n| *n == number)

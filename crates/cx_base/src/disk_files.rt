@@ -1,6 +1,6 @@
 //! The real files of the system: the trusted edge, which tells no contents.
-ghost use Rattle.std.specs.Prelude.{◌≡◌, ◌≤◌, length, None, IfOk, OnErr, IfSome};
-ghost use Rattle.cx_base.specs.Faults.{HasCause, Rose};
+ghost use Rattle.std.specs.Prelude.{◌≡◌, ◌≤◌, ℕ, length, None, Err, IfOk, IfSome};
+ghost use Rattle.cx_base.specs.Faults.{HasCause};
 ghost use Rattle.cx_base.specs.Outside.{ReadTells, ListTells};
 
 use crate::answers::Entry;
@@ -10,14 +10,17 @@ use crate::list::List;
 use crate::outside::Files;
 use crate::path::Path;
 use std::alloc::Global;
-use std::fs::DirEntry;
+use std::fs::{DirEntry, Metadata};
 use std::io::{ErrorKind, Read};
+use std::os::unix::fs::FileTypeExt;
 use std::{fs, io, rt};
 
 /// The files and folders of the system. Each call that fails raises their count.
 ///
-/// A path through a file, a name with a byte 0 and a broken link are as nothing; any other failure
-/// of the system is a fault. Names in a folder that are not UTF-8 are passed over.
+/// A path through a file, a name with a byte 0 and a broken link are as nothing, and so is what
+/// goes away between two looks at it. What is neither a folder, a regular file nor a device is not
+/// opened: that is a fault, and so is any other failure of the system. A call that a signal
+/// interrupted is made again. Names in a folder that are not UTF-8 are passed over.
 #[derive(Drop)]
 pub struct DiskFiles<R: rt::Files + AllocGlobal + Clone + Drop> {
     rt: R,
@@ -27,15 +30,14 @@ pub struct DiskFiles<R: rt::Files + AllocGlobal + Clone + Drop> {
 impl<R: rt::Files + AllocGlobal + Clone + Drop> DiskFiles<R> {
     /// The files of the system, of which no call failed yet.
     pub fn new(rt: R) -> DiskFiles<R>
-        ensures { ⟦<DiskFiles<R> as Files>⟧.faults result ≡ 0 }
+        ensures { ⟦<DiskFiles<R> as Files>⟧.state result ≡ record { told = None; faults = 0 } }
     {
         DiskFiles { rt, faults: 0 }
     }
 
     // Counts a failure of the system; want of memory is none.
     fn lost(&mut self, error: io::Error) -> Lost
-        ensures later { self.old.faults ≤ self.new.faults }
-        ensures rose { result ≡ Lost.Failed → Rose self.old.faults self.new.faults }
+        ensures { HasCause {T = ℕ} self.old.faults self.new.faults (Err result) }
     {
         if error.kind() == ErrorKind::OutOfMemory {
             return Lost::NoMemory;
@@ -45,18 +47,63 @@ impl<R: rt::Files + AllocGlobal + Clone + Drop> DiskFiles<R> {
     }
 }
 
-// Whether the path is a folder, and None where nothing stands there.
-fn is_folder(rt: &impl rt::Files, path: &str) -> io::Result<Option<bool>> {
-    if path.as_bytes().contains(&0) {
-        return Ok(None);
+// What stands at a path, as far as it can be asked.
+#[derive(Clone, Copy, PartialEq, Eq)]
+enum Kind {
+    Folder,
+    // A regular file or a device, of which a read returns.
+    File,
+    // A FIFO or a socket: the open of a FIFO without a writer would never return.
+    Other,
+}
+
+fn kind_of(metadata: &Metadata) -> Kind {
+    let kind = metadata.file_type();
+    if kind.is_dir() {
+        Kind::Folder
+    } else if kind.is_file() || kind.is_char_device() || kind.is_block_device() {
+        Kind::File
+    } else {
+        Kind::Other
     }
-    match fs::metadata(rt, path) {
-        Ok(metadata) => Ok(Some(metadata.is_dir())),
+}
+
+// What the system gave, and None where nothing stands at the path.
+fn present<T>(given: io::Result<T>) -> io::Result<Option<T>> {
+    match given {
+        Ok(found) => Ok(Some(found)),
         Err(error) => match error.kind() {
             ErrorKind::NotFound | ErrorKind::NotADirectory => Ok(None),
             _ => Err(error),
         },
     }
+}
+
+fn kind_at(rt: &impl rt::Files, path: &str) -> io::Result<Option<Kind>> {
+    if path.as_bytes().contains(&0) {
+        return Ok(None);
+    }
+    match present(fs::metadata(rt, path))? {
+        Some(metadata) => Ok(Some(kind_of(&metadata))),
+        None => Ok(None),
+    }
+}
+
+// Reads once, and again where a signal interrupted the call.
+fn read_once(reader: &mut impl Read, buffer: &mut [u8]) -> io::Result<usize>
+    ensures { IfOk result (λ n. n ≤ length buffer.old) }
+{
+    for _ in 0..u64::MAX {
+        match reader.read(buffer) {
+            Ok(count) => return Ok(count),
+            Err(error) => {
+                if error.kind() != ErrorKind::Interrupted {
+                    return Err(error);
+                }
+            }
+        }
+    }
+    Err(io::Error::from(ErrorKind::Interrupted))
 }
 
 // At most so many bytes from the front of a reader.
@@ -67,7 +114,7 @@ fn front_of(alloc: Global, reader: &mut impl Read, most: u64) -> io::Result<Byte
     let mut buffer = [0u8; 65536];
     for _ in 0..u64::MAX {
         let room = (most as usize - bytes.len()).min(buffer.len());
-        let count = reader.read(&mut buffer[..room])?;
+        let count = read_once(reader, &mut buffer[..room])?;
         if count == 0 {
             break;
         }
@@ -83,10 +130,14 @@ fn read_file<R: rt::Files + AllocGlobal + Clone>(
 ) -> io::Result<Option<Bytes>>
     ensures { IfOk result (λ got. IfSome got (λ bytes. length bytes ≤ most)) }
 {
-    if is_folder(rt, path)? != Some(false) {
-        return Ok(None);
+    match kind_at(rt, path)? {
+        Some(Kind::File) => {}
+        Some(Kind::Other) => return Err(io::Error::from(ErrorKind::Unsupported)),
+        Some(Kind::Folder) | None => return Ok(None),
     }
-    let mut file = fs::open(rt, path)?;
+    let Some(mut file) = present(fs::open(rt, path))? else {
+        return Ok(None);
+    };
     let bytes = front_of(rt.alloc(), &mut file, most)?;
     Ok(Some(bytes))
 }
@@ -101,7 +152,7 @@ fn member<R: rt::Files + AllocGlobal + Clone>(
         Err(error) if error.kind() == ErrorKind::InvalidFilename => return Ok(None),
         Err(error) => return Err(error),
     };
-    let folder = matches!(is_folder(rt, member.path().as_str()), Ok(Some(true)));
+    let folder = matches!(kind_at(rt, member.path().as_str()), Ok(Some(Kind::Folder)));
     match Path::from_str(rt.alloc(), member.file_name()) {
         Ok(name) => Ok(Some(Entry { name, folder })),
         Err(_) => Err(io::Error::from(ErrorKind::OutOfMemory)),
@@ -112,11 +163,14 @@ fn read_folder<R: rt::Files + AllocGlobal + Clone>(
     rt: &R,
     path: &str,
 ) -> io::Result<Option<List<Entry>>> {
-    if is_folder(rt, path)? != Some(true) {
+    if kind_at(rt, path)? != Some(Kind::Folder) {
         return Ok(None);
     }
+    let Some(members) = present(fs::read_dir(rt, path))? else {
+        return Ok(None);
+    };
     let mut entries = Vec::new(rt.alloc());
-    for found in fs::read_dir(rt, path)? {
+    for found in members {
         if let Some(entry) = member(rt, found)? {
             entries.push(entry)?;
         }
@@ -125,20 +179,18 @@ fn read_folder<R: rt::Files + AllocGlobal + Clone>(
 }
 
 impl<R: rt::Files + AllocGlobal + Clone + Drop> Files for DiskFiles<R> {
-    ghost faults = { λ files. files.faults };
-
-    ghost told = { λ files. None };
+    ghost state = { λ files. record { told = None; faults = files.faults } };
 
     fn read(&mut self, path: &Path, most: u64) -> Result<Option<Bytes>, Lost> {
         match read_file(&self.rt, path.as_str(), most) {
-            Ok(got) => Ok(got),
+            Ok(front) => Ok(front),
             Err(error) => Err(self.lost(error)),
         }
     }
 
     fn list(&mut self, path: &Path) -> Result<Option<List<Entry>>, Lost> {
         match read_folder(&self.rt, path.as_str()) {
-            Ok(got) => Ok(got),
+            Ok(members) => Ok(members),
             Err(error) => Err(self.lost(error)),
         }
     }

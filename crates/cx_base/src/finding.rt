@@ -1,13 +1,13 @@
 //! Findings.
 ghost use Rattle.std.specs.Prelude.{◌≡◌, IfOk};
 
+use crate::bytes::Text;
 use crate::errors::NoMemory;
 use crate::id::{Id, Severity};
 use crate::list::{Duplicate, List};
 use crate::place::Place;
-use crate::text::Text;
 
-/// A part of a message: a text, or a number, which is printed in decimal.
+/// A word of a message: a text, or a number, which is printed in decimal.
 #[derive(Debug, Drop)]
 pub enum Word {
     Text(Text),
@@ -22,7 +22,7 @@ pub struct Finding {
     pub place: Place,
     /// Further places that the finding speaks of.
     pub others: List<Place>,
-    /// The parts of its message, in their order.
+    /// The words of its message, in their order.
     pub words: List<Word>,
 }
 

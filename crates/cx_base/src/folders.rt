@@ -1,6 +1,6 @@
 //! The folders that the paths of stored files make, and their members.
 ghost use Rattle.std.specs.Prelude.{◌≡◌, MatchOption, Some, None, IfOk};
-ghost use Rattle.cx_base.specs.Folders.{behind, inside, first_entry, is_elsewhere, is_folder, is_slash};
+ghost use Rattle.cx_base.specs.Folders.{rest_after, inside, first_entry, is_elsewhere, is_folder, is_slash};
 ghost use Rattle.std.specs.List.{before_first, list_any};
 
 use crate::answers::{Entry, Stored};
@@ -8,9 +8,11 @@ use crate::errors::NoMemory;
 use crate::path::Path;
 use std::alloc::Global;
 
-// What stands behind a front, where the text begins with it.
-pub(crate) fn behind<'a>(front: &str, text: &'a str) -> Option<&'a str>
-    ensures { MatchOption result (behind front.now text.now ≡ None) (λ rest. behind front.now text.now ≡ Some rest.now) }
+// The rest of a text after a front, where the text begins with it.
+pub(crate) fn rest_after<'a>(front: &str, text: &'a str) -> Option<&'a str>
+    ensures { MatchOption result
+        (rest_after front.now text.now ≡ None)
+        (λ rest. rest_after front.now text.now ≡ Some rest.now) }
 {
     text.strip_prefix(front)
 }
@@ -23,17 +25,19 @@ fn is_elsewhere(path: &str) -> bool
 
 // A path as it is seen from inside a folder, where it is in there.
 pub(crate) fn inside<'a>(folder: &str, path: &'a str) -> Option<&'a str>
-    ensures { MatchOption result (inside folder.now path.now ≡ None) (λ rest. inside folder.now path.now ≡ Some rest.now) }
+    ensures { MatchOption result
+        (inside folder.now path.now ≡ None)
+        (λ rest. inside folder.now path.now ≡ Some rest.now) }
 {
     if folder == "." {
         if is_elsewhere(path) { None } else { Some(path) }
     } else {
-        behind("/", behind(folder, path)?)
+        rest_after("/", rest_after(folder, path)?)
     }
 }
 
 // What stands before the first `/`, or all where there is none.
-fn first_part(path: &str) -> &str
+fn first_component(path: &str) -> &str
     ensures { result.now ≡ before_first is_slash path.now }
 {
     match path.split_once('/') {
@@ -48,11 +52,11 @@ fn has_slash(path: &str) -> bool
     path.as_bytes().iter().any(|b| *b == b'/')
 }
 
-// The first part of a path, which is a folder where more parts follow.
+// The first component of a path, which is a folder where more follow.
 pub(crate) fn first_entry(alloc: Global, path: &str) -> Result<Entry, NoMemory>
     ensures { IfOk result (λ entry. entry ≡ first_entry path.now) }
 {
-    let name = Path::from_str(alloc, first_part(path))?;
+    let name = Path::from_str(alloc, first_component(path))?;
     Ok(Entry {
         name,
         folder: has_slash(path),

@@ -3,9 +3,10 @@
 #![tactic(auto)]
 
 pub use answers::{Answer, Entry, Seen, SeenEntry, Stored};
-pub use bytes::Bytes;
+pub use bytes::{Bytes, Text};
 pub use disk_files::DiskFiles;
 pub use errors::{Lost, NoMemory};
+pub use file_calls::{FileCall, FileRequest};
 pub use finding::{Finding, Word};
 pub use id::{Id, Severity};
 pub use list::{Duplicate, List};
@@ -16,7 +17,6 @@ pub use path::Path;
 pub use place::Place;
 pub use simple::is_simple;
 pub use std_sink::StdSink;
-pub use text::Text;
 pub use write_all::write_whole;
 
 mod answers;
@@ -24,6 +24,7 @@ mod bytes;
 mod calls;
 mod disk_files;
 mod errors;
+mod file_calls;
 mod finding;
 mod folders;
 mod id;
@@ -36,5 +37,4 @@ mod path;
 mod place;
 mod simple;
 mod std_sink;
-mod text;
 mod write_all;

@@ -1,7 +1,7 @@
 //! The members of a folder, in order and each once.
 ghost use Rattle.std.specs.Prelude.{◌≡◌, [], ◌∷◌, ◌++◌, ◌≤◌, length, take, drop, IfOk, OnOk, MatchOption, Some, None};
 ghost use Rattle.cx_base.specs.Folders.{entry_at, entry_cmp, AreMembers, IsOrdered};
-ghost use Rattle.cx_base.specs.Members.{added, with_entry, members_with};
+ghost use Rattle.cx_base.specs.Shapes.Members.{added, with_entry, members_with};
 
 use crate::answers::{Entry, Stored};
 use crate::errors::NoMemory;
@@ -23,7 +23,8 @@ fn entry_order(one: &Entry, other: &Entry) -> Ordering
 fn place_of(entries: &[Entry], entry: &Entry) -> Option<usize>
     ensures { MatchOption result
         (added entry.now entries.now ≡ entries.now)
-        (λ at. (at ≤ length entries.now) × (added entry.now entries.now ≡ take at entries.now ++ entry.now ∷ drop at entries.now)) }
+        (λ at. (at ≤ length entries.now) × (added entry.now entries.now
+        ≡ take at entries.now ++ entry.now ∷ drop at entries.now)) }
 {
     for (at, other) in entries.iter().enumerate() {
         match entry_order(entry, other) {

@@ -1,17 +1,18 @@
 //! Files in memory.
-ghost use Rattle.std.specs.Prelude.{◌≡◌, ◌≤◌, [], ◌∷◌, ◌++◌, ◌&&◌, not, Some, bytes_eq, option_copied, length, take, IfOk, IfSome, IsTrue, option_map};
+ghost use Rattle.std.specs.Prelude.{◌≡◌, ◌≤◌, [], ◌∷◌, ◌++◌, ◌&&◌, not, Some, bytes_eq, option_copied, length, take, IfOk, OnOk, OnErr, IfSome, IsTrue, option_map};
 ghost use Rattle.cx_base.specs.Faults.{HasCause};
-ghost use Rattle.cx_base.specs.Calls.{Counts, failures};
 ghost use Rattle.cx_base.specs.Folders.{IsOrdered, is_folder};
-ghost use Rattle.cx_base.specs.Memory.{FailsAt, are_distinct, can_stand};
+ghost use Rattle.cx_base.specs.Memory.{FailsByNumber, are_distinct, can_be_file, can_stand, files_state, next_call_fails};
+ghost use Rattle.cx_base.specs.Shapes.MemoryCalls.{with_call, FailsAt};
 ghost use Rattle.cx_base.specs.Simple.{is_simple};
 ghost use Rattle.std.specs.List.{list_all};
-ghost use Rattle.cx_base.specs.Outside.{ReadTells, ListTells, Lists, file_at, bytes_at};
+ghost use Rattle.cx_base.specs.Outside.{ReadTells, ListTells, GivesFolder, FilesTold, file_at, bytes_at, calls_after, failed_paths};
 
 use crate::answers::{Entry, Stored};
 use crate::bytes::Bytes;
-use crate::calls::CallCount;
+use crate::calls::contains;
 use crate::errors::{Lost, NoMemory};
+use crate::file_calls::{FileCall, FileRequest};
 use crate::folders::is_folder;
 use crate::list::List;
 use crate::members::members_of;
@@ -22,20 +23,23 @@ use std::alloc::Global;
 use std::marker::Model;
 
 /// Files in memory, of which the calls with given numbers fail. All calls are counted together,
-/// from 0. They tell their contents.
+/// from 0. They tell their contents and their calls.
 #[derive(Debug, Drop)]
 pub struct MemoryFiles {
     stored: List<Stored>,
-    failed: List<Path>,
-    calls: CallCount,
+    answered: List<FileCall>,
+    failing: List<u64>,
 }
 
 impl Model for MemoryFiles {
-    ghost use Rattle.cx_base.specs.Memory.{FilesState};
+    ghost use Rattle.cx_base.specs.Memory.{MemoryFilesState};
 
-    ghost Value = { FilesState };
+    ghost Value = { MemoryFilesState };
 
-    ghost view = { λ f. record { told = record { stored = f.stored; failed = f.failed }; calls = f.calls } };
+    ghost view = { λ f. record {
+      told = record { stored = f.stored; calls = f.answered };
+      failing = f.failing;
+    } };
 }
 
 impl MemoryFiles {
@@ -44,29 +48,53 @@ impl MemoryFiles {
     pub fn new(alloc: Global, stored: List<Stored>, failing: List<u64>) -> MemoryFiles
         requires { IsTrue (can_stand stored) }
         ensures { result ≡ record {
-          told = record { stored = stored; failed = [] };
-          calls = record { failing = failing; made = 0 };
+          told = record { stored = stored; calls = [] };
+          failing = failing;
         } }
     {
         MemoryFiles {
             stored,
-            failed: List::new(alloc),
-            calls: CallCount::new(failing),
+            answered: List::new(alloc),
+            failing,
         }
     }
 
-    // A call that fails: its path is noted and the call counted, unless memory ran out.
-    fn fail(&mut self, path: &Path) -> Lost
-        ensures { FailsAt self.old self.new path.now result }
+    /// The calls that were answered, in order.
+    pub fn calls(&self) -> &[FileCall]
+        ensures { result.now ≡ self.now.told.calls }
     {
-        let Ok(path) = path.copy() else {
-            return Lost::NoMemory;
+        self.answered.as_slice()
+    }
+
+    // Whether the next call is to fail.
+    fn next_fails(&self) -> bool
+        ensures { result ≡ next_call_fails self.now }
+    {
+        contains(self.failing.as_slice(), self.answered.len() as u64)
+    }
+
+    // Notes a call that is answered, unless memory runs out.
+    fn note(&mut self, path: &Path, request: FileRequest, failed: bool) -> Result<(), NoMemory>
+        ensures ok { OnOk result (self.new ≡ with_call self.old path.now request failed) }
+        ensures err { OnErr result (self.new ≡ self.old) }
+    {
+        let path = path.copy()?;
+        let call = FileCall {
+            path,
+            request,
+            failed,
         };
-        if self.failed.push(path).is_err() {
-            return Lost::NoMemory;
+        self.answered.push(call)
+    }
+
+    // A call that fails, unless memory runs out.
+    fn fail(&mut self, path: &Path, request: FileRequest) -> Lost
+        ensures { FailsAt self.old self.new path.now request result }
+    {
+        match self.note(path, request, true) {
+            Ok(()) => Lost::Failed,
+            Err(_) => Lost::NoMemory,
         }
-        self.calls.count();
-        Lost::Failed
     }
 }
 
@@ -105,9 +133,9 @@ fn front_of(alloc: Global, file: Option<&Bytes>, most: u64) -> Result<Option<Byt
     }
 }
 
-#[tactic(auto, using(crate::proofs::MemberLaws::are_members, crate::proofs::MemberLaws::members_ordered))]
+#[tactic(auto, using(crate::proofs::MemberLaws::members_ordered))]
 fn entries_at(alloc: Global, stored: &[Stored], path: &str) -> Result<Option<List<Entry>>, NoMemory>
-    ensures lists { IfOk result (Lists stored.now path.now) }
+    ensures lists { IfOk result (GivesFolder stored.now path.now) }
     ensures ordered { IfOk result (λ got. IfSome got IsOrdered) }
 {
     if !is_folder(stored, path) {
@@ -118,44 +146,47 @@ fn entries_at(alloc: Global, stored: &[Stored], path: &str) -> Result<Option<Lis
 }
 
 impl Files for MemoryFiles {
-    ghost faults = { λ files. failures files.calls };
-
-    ghost told = { λ files. Some files.told };
+    ghost state = { files_state };
 
     fn read(&mut self, path: &Path, most: u64) -> Result<Option<Bytes>, Lost>
         ensures bound { IfOk result (λ got. IfSome got (λ bytes. length bytes ≤ most)) }
-        ensures tells { ReadTells (Some self.old.told) (Some self.new.told) path.now most result }
-        ensures cause { HasCause (failures self.old.calls) (failures self.new.calls) result }
+        ensures tells { ReadTells
+            (files_state self.old) (files_state self.new) path.now most result }
+        ensures cause { HasCause
+            (files_state self.old).faults (files_state self.new).faults result }
 
         // A call fails exactly where its number says so.
-        ensures counts { Counts self.old.calls self.new.calls result }
+        ensures number { FailsByNumber self.old result }
+        ensures failing { self.new.failing ≡ self.old.failing }
     {
-        if self.calls.next_fails() {
-            return Err(self.fail(path));
+        if self.next_fails() {
+            return Err(self.fail(path, FileRequest::Read { most }));
         }
         let alloc = self.stored.allocator();
         let file = file_at(self.stored.as_slice(), path.as_str());
         let got = front_of(alloc, file, most)?;
-        self.calls.count();
+        self.note(path, FileRequest::Read { most }, false)?;
         Ok(got)
     }
 
     fn list(&mut self, path: &Path) -> Result<Option<List<Entry>>, Lost>
-        ensures tells { ListTells (Some self.old.told) (Some self.new.told) path.now result }
-        ensures cause { HasCause (failures self.old.calls) (failures self.new.calls) result }
+        ensures tells { ListTells (files_state self.old) (files_state self.new) path.now result }
+        ensures cause { HasCause
+            (files_state self.old).faults (files_state self.new).faults result }
 
         // A call fails exactly where its number says so.
-        ensures counts { Counts self.old.calls self.new.calls result }
+        ensures number { FailsByNumber self.old result }
+        ensures failing { self.new.failing ≡ self.old.failing }
 
         // Each member is given once, by the bytes of the names.
         ensures ordered { IfOk result (λ got. IfSome got IsOrdered) }
     {
-        if self.calls.next_fails() {
-            return Err(self.fail(path));
+        if self.next_fails() {
+            return Err(self.fail(path, FileRequest::List));
         }
         let alloc = self.stored.allocator();
         let got = entries_at(alloc, self.stored.as_slice(), path.as_str())?;
-        self.calls.count();
+        self.note(path, FileRequest::List, false)?;
         Ok(got)
     }
 }
@@ -179,13 +210,13 @@ fn are_distinct(stored: &[Stored]) -> bool
 }
 
 fn can_be_file(stored: &[Stored], path: &Path) -> bool
-    ensures { result ≡ (is_simple path.now && not (is_folder stored.now path.now)) }
+    ensures { result ≡ can_be_file stored.now path.now }
 {
     is_simple(path) && !is_folder(stored, path.as_str())
 }
 
 fn can_be_files(stored: &[Stored], files: &[Stored]) -> bool
-    ensures { result ≡ list_all (λ file. is_simple file.path && not (is_folder stored.now file.path)) files.now }
+    ensures { result ≡ list_all (λ file. can_be_file stored.now file.path) files.now }
 {
     files.iter().all(|file| can_be_file(stored, &file.path))
 }

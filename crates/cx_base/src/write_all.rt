@@ -9,9 +9,10 @@ use crate::outside::Sink;
 /// Writes all the bytes, to a sink that may take a few at a time. After a refusal a front of them
 /// was written.
 pub fn write_whole<S: Sink>(sink: &mut S, bytes: &[u8]) -> Result<(), Lost>
-    ensures whole { OnOk result (Appends (S.holds sink.old) (S.holds sink.new) bytes.now) }
-    ensures part { OnErr result ((n : ℕ) × (n ≤ length bytes.now) × Appends (S.holds sink.old) (S.holds sink.new) (take n bytes.now)) }
-    ensures cause { HasCause (S.faults sink.old) (S.faults sink.new) result }
+    ensures whole { OnOk result (Appends (S.state sink.old) (S.state sink.new) bytes.now) }
+    ensures front { OnErr result ((n : ℕ) × (n ≤ length bytes.now)
+        × Appends (S.state sink.old) (S.state sink.new) (take n bytes.now)) }
+    ensures cause { HasCause (S.state sink.old).faults (S.state sink.new).faults result }
 {
     let mut done = 0;
     while done < bytes.len() {

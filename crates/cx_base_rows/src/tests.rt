@@ -1,14 +1,17 @@
 //! Tables of paths, folders and copies.
 use cx_base::{
-    Answer, Bytes, Entry, Files, Finding, Id, List, MemoryFiles, Path, Place, SeenEntry, Severity,
-    Stored, Text, Word, can_stand, is_simple,
+    Answer, Bytes, DiskFiles, Entry, FileRequest, Files, Finding, Id, List, Lost, MemoryFiles,
+    Path, Place, SeenEntry, Severity, StdSink, Stored, Text, Word, can_stand, is_simple,
+    write_whole,
 };
 use std::alloc::Global;
+use std::io;
+use std::io::{ErrorKind, Write};
 use std::process::Abort;
 use std::test::Fail;
 
 /// Paths, and whether they are simple.
-const PATHS: [(&str, bool); 22] = [
+const PATHS: [(&str, bool); 27] = [
     ("a.c", true),
     ("a/c.c", true),
     ("./a//b/../c.c", false),
@@ -20,8 +23,13 @@ const PATHS: [(&str, bool); 22] = [
     ("../../a", true),
     ("a/..", false),
     ("a/../b", false),
-    ("/..", false),
-    ("/../a", false),
+    ("/..", true),
+    ("/../a", true),
+    ("/../../a", true),
+    ("/../a/..", false),
+    ("/./..", false),
+    ("../a", true),
+    ("a//b", false),
     ("/a", true),
     ("/a/b", true),
     ("a/", false),
@@ -72,12 +80,16 @@ fn stored_of(alloc: Global, paths: &[&'static str]) -> Result<List<Stored>, Fail
     Ok(list)
 }
 
-fn files_in_memory(alloc: Global, paths: &[&'static str]) -> Result<MemoryFiles, Fail> {
+fn files_in_memory(
+    alloc: Global,
+    paths: &[&'static str],
+    failing: List<u64>,
+) -> Result<MemoryFiles, Fail> {
     let stored = stored_of(alloc, paths)?;
     if !can_stand(stored.as_slice()) {
         return Err(Fail::from("these files cannot stand side by side"));
     }
-    Ok(MemoryFiles::new(alloc, stored, List::new(alloc)))
+    Ok(MemoryFiles::new(alloc, stored, failing))
 }
 
 // The members as one text.
@@ -140,7 +152,7 @@ fn try_list(
 
 #[test]
 fn folders_have_their_members_in_order(rt: HostRuntime) -> Result<(), Fail> {
-    let mut files = files_in_memory(rt.alloc(), &FILES)?;
+    let mut files = files_in_memory(rt.alloc(), &FILES, List::new(rt.alloc()))?;
     for (folder, members) in FOLDERS {
         try_list(&rt, &mut files, folder, members)?;
     }
@@ -180,10 +192,105 @@ fn try_read(
 
 #[test]
 fn files_give_their_front(rt: HostRuntime) -> Result<(), Fail> {
-    let mut files = files_in_memory(rt.alloc(), &FILES)?;
+    let mut files = files_in_memory(rt.alloc(), &FILES, List::new(rt.alloc()))?;
     for (path, most, front) in READS {
         try_read(&rt, &mut files, path, most, front)?;
     }
+    Ok(())
+}
+
+#[test]
+fn answered_calls_are_noted_in_order(rt: HostRuntime) -> Result<(), Fail> {
+    let mut failing = List::new(rt.alloc());
+    failing.push(1)?;
+    let mut files = files_in_memory(rt.alloc(), &FILES, failing)?;
+    let path = Path::from_str(rt.alloc(), "d")?;
+    assert!(rt; files.list(&path).is_ok());
+    assert!(rt; files.read(&path, 5).is_err());
+    match files.calls() {
+        [first, second] => {
+            assert!(rt; first.path.as_str() == "d" && second.path.as_str() == "d");
+            assert!(rt; first.request == FileRequest::List && !first.failed);
+            assert!(rt; second.request == FileRequest::Read { most: 5 } && second.failed);
+        }
+        _ => return Err(Fail::from("another number of calls")),
+    }
+    Ok(())
+}
+
+/// A stream that takes a few bytes a call, and of which the first calls are interrupted.
+#[derive(Drop)]
+struct SlowStream {
+    taken: Vec<u8>,
+    most: usize,
+    interruptions: u64,
+}
+
+impl Write for SlowStream {
+    fn write(&mut self, bytes: &[u8]) -> io::Result<usize> {
+        if self.interruptions > 0 {
+            self.interruptions -= 1;
+            return Err(io::Error::from(ErrorKind::Interrupted));
+        }
+        let count = bytes.len().min(self.most);
+        self.taken.extend_from_slice(&bytes[..count])?;
+        Ok(count)
+    }
+
+    fn flush(&mut self) -> io::Result<()> {
+        Ok(())
+    }
+}
+
+/// Streams by the bytes that they take a call and by their interruptions, and what they then have
+/// of `one two`; a stream that takes nothing fails.
+const STREAMS: [(usize, u64, bool, &str); 4] = [
+    (1, 0, true, "one two"),
+    (4, 1, true, "one two"),
+    (100, 3, true, "one two"),
+    (0, 0, false, ""),
+];
+
+#[test]
+fn streams_get_the_bytes_that_are_written(rt: HostRuntime) -> Result<(), Fail> {
+    for (most, interruptions, whole, text) in STREAMS {
+        let mut stream = SlowStream {
+            taken: Vec::new(rt.alloc()),
+            most,
+            interruptions,
+        };
+        let written = write_whole(&mut StdSink::new(&mut stream), b"one two");
+        assert!(rt; written == if whole { Ok(()) } else { Err(Lost::Failed) });
+        assert!(rt; stream.taken.as_slice() == text.as_bytes());
+    }
+    Ok(())
+}
+
+/// Reads of the system's own files, of at most 3 bytes, and what they give.
+const SYSTEM_READS: [(&str, Option<&[u8]>); 5] = [
+    ("/dev/null", Some(b"")),
+    ("/dev/zero", Some(b"\0\0\0")),
+    ("/dev", None),
+    ("/dev/null/x", None),
+    ("/dev/there is no such device", None),
+];
+
+#[test]
+fn devices_are_read_and_folders_are_not(rt: HostRuntime) -> Result<(), Fail> {
+    let mut files = DiskFiles::new(rt.clone()?);
+    for (path, bytes) in SYSTEM_READS {
+        let name = Path::from_str(rt.alloc(), path)?;
+        let Ok(read) = files.read(&name, 3) else {
+            return Err(Fail::from("a read that failed"));
+        };
+        match (&read, bytes) {
+            (Some(front), Some(bytes)) => assert!(rt; front.as_slice() == bytes, "{path}"),
+            (None, None) => {}
+            _ => return Err(Fail::from("another answer")),
+        }
+    }
+    let devices = files.list(&Path::from_str(rt.alloc(), "/dev")?);
+    assert!(rt; matches!(devices, Ok(Some(_))));
     Ok(())
 }
 

@@ -1,5 +1,5 @@
 use Rattle.std.proofs.Common.{◌≡◌, [], drop}
-use Rattle.cx_base.specs.Members.{members_with}
+use Rattle.cx_base.specs.Shapes.Members.{members_with}
 use Rattle.cx_base.proofs.members.members_of.Given as goal
 
 abbrev pub invariant-loop-file : goal.invariant-loop-file

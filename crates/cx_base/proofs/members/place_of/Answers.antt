@@ -1,7 +1,7 @@
 use Rattle.std.proofs.Common.{◌≡◌, ℕ, ◌≤◌, List, ◌++◌, take, drop, length, arith, refl, sym, subst, ◌∙◌}
 use Rattle.cx_base.proofs.PlaceLaws.{found_less, found_equal, found_greater, found_end}
 use Rattle.cx_base.specs.declared.answers.Entry.{Entry}
-use Rattle.cx_base.specs.Members.{added}
+use Rattle.cx_base.specs.Shapes.Members.{added}
 use Rattle.cx_base.proofs.members.place_of.Goals as goal
 
 -- a walk that ended stands at the end

@@ -1,5 +1,5 @@
 use Rattle.std.proofs.Common.{◌≡◌, ◌++◌, take, drop}
-use Rattle.cx_base.specs.Members.{added}
+use Rattle.cx_base.specs.Shapes.Members.{added}
 use Rattle.cx_base.proofs.members.place_of.Given as goal
 
 abbrev pub invariant-loop-at : goal.invariant-loop-at

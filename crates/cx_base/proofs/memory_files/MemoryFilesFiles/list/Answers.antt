@@ -1,9 +1,11 @@
-use Rattle.std.proofs.Common.{rules, Ok, Err}
-use Rattle.cx_base.proofs.CountLaws.{counted_cause}
+use Rattle.cx_base.specs.declared.file_calls.FileRequest.TheVariants.{List as ListFolder}
+use Rattle.cx_base.proofs.CauseLaws.{fail_cause, note_cause}
 use Rattle.cx_base.proofs.memory_files.MemoryFilesFiles.list.Goals as goal
 
 pub returns-then-next_fails-clause-cause : goal.returns-then-next_fails-clause-cause
-returns-then-next_fails-clause-cause c = counted_cause c.args.self.now.calls c.fail.new.self.calls (Err c.fail.result) (search rules)
+returns-then-next_fails-clause-cause c =
+    fail_cause c.args.self.now c.fail.new.self c.args.path.now (ListFolder) c.fail.result c.fail.ensures
 
 pub returns-clause-cause : goal.returns-clause-cause
-returns-clause-cause c = counted_cause c.args.self.now.calls c.count.new.self (Ok c.in_ok-got.got) (search rules)
+returns-clause-cause c =
+    note_cause c.args.self.now c.note.new.self c.args.path.now (ListFolder) c.in_ok-note.ensures.ok

@@ -1,5 +1,5 @@
 use Rattle.cx_base.proofs.FolderLaws.{strips}
-use Rattle.cx_base.proofs.folders.behind.Goals as goal
+use Rattle.cx_base.proofs.folders.rest_after.Goals as goal
 
 pub returns : goal.returns
 returns c = strips c.args.front.now c.args.text.now c.strip_prefix.result c.strip_prefix.ensures.cases
