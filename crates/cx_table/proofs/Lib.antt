@@ -1,0 +1,4 @@
+pub mod EntryLaws
+pub mod Examples
+pub mod TableLaws
+pub mod ValueLaws

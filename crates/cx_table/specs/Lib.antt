@@ -1,0 +1,2 @@
+pub mod NameKey
+pub mod NameTable
