@@ -1,4 +1,5 @@
 pub mod CommonTypeLaws
+mod Examples
 pub mod OutsideLaws
 pub mod QuotientLaws
 pub mod ValueLaws

@@ -14,7 +14,7 @@ use Rattle.cx_tree.specs.declared.types.Width.TheVariants.{Bits8, Bits16, Bits32
 use Rattle.cx_tree.specs.IntegerTypes.{kind, width, least_of, greatest_of}
 use Rattle.cx_tree.specs.ConversionRules.{low_bits}
 use Rattle.cx_tree.specs.Arithmetic.{fit, fit_in}
-use Rattle.cx_tree.specs.Outside.{fit_outside, fit_outside_of}
+use Rattle.cx_tree.specs.Shapes.Outside.{fit_outside, fit_outside_of}
 
 -- numbers that differ by a multiple of n have the same remainder
 same_remainder : (n : ℕ) (a b : ℤ) (j k : ℕ) → 0 < n → a +ℤ pos (j * n) ≡ b +ℤ pos (k * n)

@@ -1,5 +1,5 @@
--- The integer operators of C11 (ISO/IEC 9899:2011) on two whole numbers, operands of one type: None where the
--- behavior is undefined.
+-- The integer operators of C11 (ISO/IEC 9899:2011) 6.5 on two whole numbers, operands of one type:
+-- None where the behavior is undefined.
 use Rattle.std.specs.Prelude.{ℕ, ◌^◌, ℤ, pos, negsuc, neg_ℤ, ◌+ℤ◌, ◌-ℤ◌, ◌*ℤ◌, Bool, false, not, ◌&&◌, if◌then◌else◌, nat_lt, int_le, int_lt, int_div, unsigned_abs, Option, Some, None, option_and_then}
 use Rattle.std.specs.Ordering.{int_eq}
 use Rattle.std.specs.Int.{int_div_euclid}
@@ -14,10 +14,12 @@ use Rattle.cx_tree.specs.declared.operators.Op.TheVariants as operator
 use Rattle.cx_tree.specs.IntegerTypes.{kind, width, bits, least_of, greatest_of}
 use Rattle.cx_tree.specs.ConversionRules.{low_bits, convert_to, convert, promote}
 
--- C11 6.5p5: a signed result that its type does not hold is undefined; 6.2.5p9: an unsigned one is converted
+-- C11 6.5p5: a signed result that its type does not hold is undefined; 6.2.5p9: an unsigned one is
+-- converted
 abbrev pub fit_in : Kind → Width → ℤ → Option ℤ
 fit_in Boolean w x = Some (convert_to Boolean w x)
-fit_in Signed w x = if int_le (least_of Signed w) x && int_le x (greatest_of Signed w) then Some x else None
+fit_in Signed w x =
+    if int_le (least_of Signed w) x && int_le x (greatest_of Signed w) then Some x else None
 fit_in Unsigned w x = Some (convert_to Unsigned w x)
 
 -- C11 6.5p5: the result in type t of an operation that gives x without bounds
@@ -32,7 +34,8 @@ divide t p a b = if int_eq b (pos 0) then None else fit t p (int_div a b)
 abbrev pub remainder : IntType → Platform → ℤ → ℤ → Option ℤ
 remainder t p a b = option_and_then (λ _. fit t p (a -ℤ (int_div a b *ℤ b))) (divide t p a b)
 
--- C11 6.5.7p3: the count of a shift, undefined where it is negative or not below the width of the promoted type
+-- C11 6.5.7p3: the count of a shift, undefined where it is negative or not below the width of the
+-- promoted type
 abbrev pub shift_count : IntType → Platform → ℤ → Option ℕ
 shift_count t p (pos n) = if nat_lt n (bits (width (promote t p) p)) then Some n else None
 shift_count t p (negsuc n) = None
@@ -52,21 +55,25 @@ shift_left t p a b =
 
 -- C11 6.5.7p5: a divided by 2 to the power b, rounded down
 abbrev pub shift_right : IntType → Platform → ℤ → ℤ → Option ℤ
-shift_right t p a b = option_and_then (λ n. fit t p (int_div_euclid a (pos (2 ^ n)))) (shift_count t p b)
+shift_right t p a b =
+    option_and_then (λ n. fit t p (int_div_euclid a (pos (2 ^ n)))) (shift_count t p b)
 
 -- C11 6.2.6.2p2: the bits of x in two's complement, as a number from 0 up
 abbrev pub pattern : Width → ℤ → ℕ
 pattern w x = unsigned_abs (low_bits w x)
 
--- C11 6.5.10p4, 6.5.11p4 and 6.5.12p4: the value whose bits are combined from those of a and b, each to each
+-- C11 6.5.10p4, 6.5.11p4 and 6.5.12p4: the value whose bits are combined from those of a and b,
+-- each to each
 abbrev pub bitwise : (ℕ → ℕ → ℕ) → IntType → Platform → ℤ → ℤ → Option ℤ
-bitwise combine t p a b = Some (convert t p (pos (combine (pattern (width t p) a) (pattern (width t p) b))))
+bitwise combine t p a b =
+    Some (convert t p (pos (combine (pattern (width t p) a) (pattern (width t p) b))))
 
 -- C11 6.5.8p6 and 6.5.9p3: 1 where a relation holds, else 0
 abbrev pub truth : Bool → Option ℤ
 truth holds = Some (if holds then pos 1 else pos 0)
 
--- C11 6.5.3.3 and 6.5.5 to 6.5.12: each operator; - and ~ take a alone, and ~ gives -a - 1 (6.2.6.2p2)
+-- C11 6.5.3.3 and 6.5.5 to 6.5.12: each operator; - and ~ take a alone, and ~ gives -a - 1
+-- (6.2.6.2p2)
 unfoldable pub arith : Op → IntType → Platform → ℤ → ℤ → Option ℤ
 arith operator.Multiply t p a b = fit t p (a *ℤ b)
 arith operator.Divide t p a b = divide t p a b

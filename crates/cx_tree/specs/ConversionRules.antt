@@ -1,4 +1,5 @@
--- How C11 (ISO/IEC 9899:2011) converts values between integer types, and to which type two operands are converted.
+-- How C11 (ISO/IEC 9899:2011) 6.3.1 converts values between integer types, and to which type two
+-- operands are converted.
 use Rattle.std.specs.Prelude.{ℕ, ℤ, pos, ◌-ℤ◌, Bool, ◌&&◌, if◌then◌else◌, nat_le, nat_lt, int_le, int_lt}
 use Rattle.std.specs.Ordering.{int_eq}
 use Rattle.std.specs.Int.{int_rem_euclid}
@@ -18,7 +19,8 @@ low_bits w x = int_rem_euclid x (pos (span w))
 abbrev pub signed_value : Width → ℤ → ℤ
 signed_value w r = if int_lt r (pos (sign_bit w)) then r else r -ℤ pos (span w)
 
--- C11 6.3.1.2 (to _Bool), 6.3.1.3p2 (to an unsigned type) and p3 (to a signed type: the low bits stay)
+-- C11 6.3.1.2 (to _Bool), 6.3.1.3p2 (to an unsigned type) and p3 (to a signed type: the low bits
+-- stay)
 abbrev pub convert_to : Kind → Width → ℤ → ℤ
 convert_to Boolean w x = if int_eq x (pos 0) then pos 0 else pos 1
 convert_to Signed w x = signed_value w (low_bits w x)
@@ -65,8 +67,9 @@ unsigned_of t = t
 abbrev pub greater_rank : IntType → IntType → IntType
 greater_rank a b = if nat_lt (rank a) (rank b) then b else a
 
--- C11 6.3.1.8p1: of an unsigned and a signed type, the unsigned one where its rank is as great, else the signed
--- one where that has all values of the other, else the unsigned type that corresponds to the signed one
+-- C11 6.3.1.8p1: of an unsigned and a signed type, the unsigned one where its rank is as great,
+-- else the signed one where that has all values of the other, else the unsigned type that
+-- corresponds to it
 abbrev pub of_mixed : IntType → IntType → Platform → IntType
 of_mixed u s p =
     if nat_le (rank s) (rank u)

@@ -1,4 +1,4 @@
--- The integer types of C11 (ISO/IEC 9899:2011) and their values on each platform.
+-- The integer types of C11 (ISO/IEC 9899:2011) 6.2.5 and their values on each platform (6.2.6.2).
 use Rattle.std.specs.Prelude.{ℕ, ◌-◌, ℤ, pos, neg_ℤ}
 use Rattle.cx_tree.specs.declared.types.Platform.{Platform}
 use Rattle.cx_tree.specs.declared.types.Platform.TheVariants.{Unix32, Unix64, Win64}
@@ -24,7 +24,8 @@ kind ctype.UnsignedLong = Unsigned
 kind ctype.LongLong = Signed
 kind ctype.UnsignedLongLong = Unsigned
 
--- C11 6.2.5p6: a type and its unsigned one have the same storage; a long has 8 bytes on unix64 alone
+-- C11 6.2.5p6: a type and its unsigned one have the same storage; a long has 8 bytes on unix64
+-- alone
 abbrev pub width_of_long : Platform → Width
 width_of_long Unix32 = Bits32
 width_of_long Unix64 = Bits64

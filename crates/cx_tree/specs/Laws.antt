@@ -1,4 +1,4 @@
--- What the definitions of this crate imply, in the words of C11 (ISO/IEC 9899:2011).
+-- What the definitions of this crate imply, in the words of C11 (ISO/IEC 9899:2011) 6.3.1 and 6.5.
 use Rattle.std.specs.Prelude.{◌≡◌, ℤ, pos, ◌+ℤ◌, ◌≤ℤ◌, ℕ, ◌*◌, true, Some}
 use Rattle.cx_tree.specs.declared.types.Platform.{Platform}
 use Rattle.cx_tree.specs.declared.types.IntType.{IntType}
@@ -24,7 +24,8 @@ ConvertsUnchanged = (t : IntType) (p : Platform) (x : ℤ) → IsValue t p x →
 abbrev pub ConvertsByMultiple : Type 0
 ConvertsByMultiple =
     (t : IntType) (p : Platform) (x : ℤ) → (t ≡ ctype.Bool → ⊥)
-    → (j : ℕ) × (k : ℕ) × (convert t p x +ℤ pos (j * span (width t p)) ≡ x +ℤ pos (k * span (width t p)))
+    → (j : ℕ) × (k : ℕ)
+    × (convert t p x +ℤ pos (j * span (width t p)) ≡ x +ℤ pos (k * span (width t p)))
 
 -- C11 6.3.1.1p3: the promotions preserve value
 abbrev pub PromotesValues : Type 0
@@ -36,4 +37,5 @@ IsUsualSymmetric = (a b : IntType) (p : Platform) → usual a b p ≡ usual b a 
 
 -- C11 6.5p5: a result is a value of its type, whatever the operands were
 abbrev pub GivesValues : Type 0
-GivesValues = (o : Op) (t : IntType) (p : Platform) (a b x : ℤ) → arith o t p a b ≡ Some x → IsValue t p x
+GivesValues =
+    (o : Op) (t : IntType) (p : Platform) (a b x : ℤ) → arith o t p a b ≡ Some x → IsValue t p x

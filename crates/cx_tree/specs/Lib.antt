@@ -1,5 +1,5 @@
 pub mod IntegerTypes
 pub mod ConversionRules
 pub mod Arithmetic
-pub mod Outside
 pub mod Laws
+pub mod Shapes

@@ -31,8 +31,9 @@ fn signed_value(w: Width, low: i128) -> i128
     }
 }
 
-/// What a value becomes when it is converted to a type (C11 6.3.1.2 and 6.3.1.3): 0 or 1 in `_Bool`, the rest modulo
-/// a power of two in an unsigned type, and in a signed type the value that its low bits have in two's complement.
+/// What a value becomes when it is converted to a type (C11 6.3.1.2 and 6.3.1.3): 0 or 1 in
+/// `_Bool`, the rest modulo a power of two in an unsigned type, and in a signed type the value that
+/// its low bits have in two's complement.
 #[tactic(auto, unfolding(crate::specs::ConversionRules::convert))]
 pub fn convert(t: IntType, p: Platform, value: i128) -> i128
     ensures { result ≡ rules.convert t p value }

@@ -1,8 +1,9 @@
-//! Laws of the definitions that the contracts of this crate cite. None of these functions does anything.
+//! Laws of the definitions that the contracts of this crate cite. None of these functions does
+//! anything.
 ghost use Rattle.cx_tree.specs.Laws.{ConvertsIntoType, ConvertsUnchanged, ConvertsByMultiple, PromotesValues, IsUsualSymmetric, GivesValues};
 
-/// A conversion gives a value of the type, leaves each of its values as it is, and but for `_Bool` changes others by a
-/// multiple of two to the power of the width (C11 6.3.1.3).
+/// A conversion gives a value of the type, leaves each of its values as it is, and but for `_Bool`
+/// changes others by a multiple of two to the power of the width (C11 6.3.1.3).
 #[tactic(auto, unfolding(crate::specs::ConversionRules::convert))]
 pub fn conversion()
     ensures into_type { ConvertsIntoType }

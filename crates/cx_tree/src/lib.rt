@@ -1,7 +1,7 @@
 //! The integer types of C11 (ISO/IEC 9899:2011), their conversions and their arithmetic.
 //!
-//! Values are whole numbers in an `i128`, and each function is total: its contract is one equation with a
-//! definition in `specs/`, which speaks of whole numbers of any size.
+//! Values are whole numbers in an `i128`, and each function is total: its contract is one equation
+//! with a definition in `specs/`, which speaks of whole numbers of any size.
 #![tactic(auto)]
 
 mod conversions;

@@ -3,14 +3,15 @@ ghost use Rattle.std.specs.Prelude.{◌≡◌, ℕ, ◌<◌, ◌^◌, pos, ◌+�
 ghost use Rattle.cx_tree.specs.Arithmetic as rules;
 ghost use Rattle.cx_tree.specs.ConversionRules as conversions;
 ghost use Rattle.cx_tree.specs.IntegerTypes as types;
-ghost use Rattle.cx_tree.specs.Outside.{fit_outside};
+ghost use Rattle.cx_tree.specs.Shapes.Outside.{fit_outside};
 
 use crate::conversions::{convert, low_bits, promote};
 use crate::types::{
     IntType, Kind, Platform, Width, bits, greatest_signed, kind_of, least_signed, width_of,
 };
 
-/// An operator on integers. `Complement` is `~` and `Negate` the unary `-`: they take the left operand alone.
+/// An operator on integers. `Complement` is `~` and `Negate` the unary `-`: they take the left
+/// operand alone.
 #[derive(Clone, Copy, Debug, PartialEq, Eq)]
 pub enum Op {
     Multiply,
@@ -33,7 +34,8 @@ pub enum Op {
     NotEqual,
 }
 
-/// A result in its type: converted to an unsigned type or `_Bool`, and `None` where a signed type does not hold it.
+/// A result in its type: converted to an unsigned type or `_Bool`, and `None` where a signed type
+/// does not hold it.
 #[tactic(auto, unfolding(crate::specs::ConversionRules::convert))]
 fn fit(t: IntType, p: Platform, value: i128) -> Option<i128>
     ensures { result ≡ rules.fit t p value }
@@ -52,7 +54,7 @@ fn fit(t: IntType, p: Platform, value: i128) -> Option<i128>
 }
 
 /// The same of a result that is no `i128`, of which `low` are the low 128 bits.
-#[tactic(auto, unfolding(crate::specs::Outside::fit_outside))]
+#[tactic(auto, unfolding(crate::specs::Shapes::Outside::fit_outside))]
 fn fit_outside(t: IntType, p: Platform, low: i128) -> Option<i128>
     ensures { result ≡ fit_outside t p low }
 {
@@ -203,8 +205,8 @@ fn truth(holds: bool) -> Option<i128>
     Some(if holds { 1 } else { 0 })
 }
 
-/// The result of an operator on two operands of type `t`, `None` exactly where C11 leaves it undefined
-/// (6.5p5, 6.5.5 to 6.5.12; for `Complement` and `Negate` 6.5.3.3).
+/// The result of an operator on two operands of type `t`, `None` exactly where C11 leaves it
+/// undefined (6.5p5, 6.5.5 to 6.5.12; for `Complement` and `Negate` 6.5.3.3).
 #[tactic(auto, unfolding(crate::specs::Arithmetic::arith))]
 pub fn arith(op: Op, t: IntType, p: Platform, a: i128, b: i128) -> Option<i128>
     ensures { result ≡ rules.arith op t p a b }

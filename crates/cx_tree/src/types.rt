@@ -4,8 +4,8 @@ ghost use Rattle.cx_tree.specs.IntegerTypes as the;
 
 /// A platform, which settles how wide the types are.
 ///
-/// Bytes of `short`, `int`, `long`, `long long` and a pointer: 2 4 4 8 4 on `Unix32`, 2 4 8 8 8 on `Unix64`,
-/// 2 4 4 8 8 on `Win64`.
+/// Bytes of `short`, `int`, `long`, `long long` and a pointer: 2 4 4 8 4 on `Unix32`, 2 4 8 8 8 on
+/// `Unix64`, 2 4 4 8 8 on `Win64`.
 #[derive(Clone, Copy, Debug, PartialEq, Eq)]
 pub enum Platform {
     Unix32,

@@ -1,7 +1,7 @@
 use Rattle.std.proofs.Common.{rules, FitsSigned, ◌∙◌, ap}
 use Rattle.std.proofs.lemmas.Int.{to_z-of_z}
 use Rattle.std.specs.Int.{w128}
-use Rattle.cx_tree.specs.Outside.{fit_outside}
+use Rattle.cx_tree.specs.Shapes.Outside.{fit_outside}
 use Rattle.cx_tree.proofs.OutsideLaws.{negate_outside}
 use Rattle.cx_tree.proofs.operators.negate.Goals as goal
 

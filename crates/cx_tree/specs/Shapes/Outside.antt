@@ -1,4 +1,6 @@
--- What the machine's arithmetic leaves to say where a result is no `i128`.
+-- How the code comes to `fit` of Arithmetic (C11 6.5p5 and 6.2.5p9) where a result is no `i128`: by
+-- the result's low 128 bits. proofs/OutsideLaws joins the two: `add_outside`, `subtract_outside`,
+-- ..
 use Rattle.std.specs.Prelude.{ℤ, pos, Option, Some, None}
 use Rattle.cx_tree.specs.declared.types.Platform.{Platform}
 use Rattle.cx_tree.specs.declared.types.IntType.{IntType}
@@ -14,5 +16,6 @@ fit_outside_of Boolean w low = Some (pos 1)
 fit_outside_of Signed w low = None
 fit_outside_of Unsigned w low = Some (low_bits w low)
 
+-- the same by the type
 unfoldable pub fit_outside : IntType → Platform → ℤ → Option ℤ
 fit_outside t p low = fit_outside_of (kind t) (width t p) low
