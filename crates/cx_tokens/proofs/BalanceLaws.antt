@@ -4,7 +4,7 @@ use Rattle.std.proofs.lemmas.Bool.{both_ways}
 use Rattle.cx_tokens.specs.declared.token.Token.{Token}
 use Rattle.cx_tokens.specs.Nodes.{TokenNode, tokens}
 use Rattle.cx_tokens.specs.Brackets.{IsPaired, closes, fits, nothing, opens, other, pair}
-use Rattle.cx_tokens.specs.Pairing.{named}
+use Rattle.cx_tokens.specs.Shapes.Pairing.{number_and_token}
 use Rattle.cx_tokens.proofs.BracketLaws.{closing_opens_not, fitting_parts, opening_closes_not}
 
 -- the brackets of nodes behind open ones are paired
@@ -36,7 +36,7 @@ record Closed (a : TokenNode) (stack xs : List TokenNode) (Rest : List TokenNode
   fit : fits a.token last.token ≡ true
   partner : a.partner ≡ Some last.number
   back : last.partner ≡ Some a.number
-  good : IsPaired inner
+  inner_is : IsPaired inner
   behind_it : Rest rest
 
 AreClosed : List TokenNode → List TokenNode → Type 0
@@ -54,7 +54,7 @@ close_other (a ∷ stack) xs x o c p h = record {
   fit = h.fit;
   partner = h.partner;
   back = h.back;
-  good = other o c p h.good;
+  inner_is = other o c p h.inner_is;
   behind_it = h.behind_it;
 }
 
@@ -70,7 +70,7 @@ close_pair (a ∷ stack) xs inner rest x b w f p q g h = record {
   fit = h.fit;
   partner = h.partner;
   back = h.back;
-  good = pair x b inner h.inner refl f p q g h.good;
+  inner_is = pair x b inner h.inner refl f p q g h.inner_is;
   behind_it = h.behind_it;
 }
 
@@ -78,7 +78,7 @@ balanced_closed : {stack xs : List TokenNode} → IsBalanced stack xs → AreClo
 unfolding AreClosed
 balanced_closed done = nothing
 balanced_closed (opened {stack = stack} {rest = rest} {x = x} o h) =
-    let k = balanced_closed h in close_pair stack rest k.inner k.rest x k.last k.whole k.fit k.partner k.back k.good k.behind_it
+    let k = balanced_closed h in close_pair stack rest k.inner k.rest x k.last k.whole k.fit k.partner k.back k.inner_is k.behind_it
 balanced_closed (closed {stack = stack} {rest = rest} {a = a} {x = x} f p q h) = record {
   inner = [];
   last = x;
@@ -87,7 +87,7 @@ balanced_closed (closed {stack = stack} {rest = rest} {a = a} {x = x} f p q h) =
   fit = f;
   partner = p;
   back = q;
-  good = nothing;
+  inner_is = nothing;
   behind_it = balanced_closed h;
 }
 balanced_closed (passed {stack = stack} {rest = rest} {x = x} o c p h) = close_other stack rest x o c p (balanced_closed h)
@@ -101,14 +101,14 @@ balanced_paired h = balanced_closed h
 cons_parts : {A : Type 0} {x y : A} {xs ys : List A} → x ∷ xs ≡ y ∷ ys → (x ≡ y) × (xs ≡ ys)
 cons_parts e = (cc, cc)
 
-pub named_parts : (xs ys : List TokenNode) → map named xs ≡ map named ys → (map (λ x. x.number) xs ≡ map (λ x. x.number) ys) × (tokens xs ≡ tokens ys)
+pub named_parts : (xs ys : List TokenNode) → map number_and_token xs ≡ map number_and_token ys → (map (λ x. x.number) xs ≡ map (λ x. x.number) ys) × (tokens xs ≡ tokens ys)
 named_parts [] [] e = (refl, refl)
 named_parts [] (y ∷ ys) e = absurd cc
 named_parts (x ∷ xs) [] e = absurd cc
 named_parts (x ∷ xs) (y ∷ ys) e =
     let p = cons_parts e in let k = named_parts xs ys p.1 in (ap₂ (λ n r. n.0 ∷ r) p.0 k.0, ap₂ (λ n r. n.1 ∷ r) p.0 k.1)
 
-pub named_both : (xs ys : List TokenNode) → map (λ x. x.number) xs ≡ map (λ x. x.number) ys → tokens xs ≡ tokens ys → map named xs ≡ map named ys
+pub named_both : (xs ys : List TokenNode) → map (λ x. x.number) xs ≡ map (λ x. x.number) ys → tokens xs ≡ tokens ys → map number_and_token xs ≡ map number_and_token ys
 named_both [] [] e f = refl
 named_both [] (y ∷ ys) e f = absurd cc
 named_both (x ∷ xs) [] e f = absurd cc
@@ -117,13 +117,13 @@ named_both (x ∷ xs) (y ∷ ys) e f =
     let pairs : (a b : ℕ) (t u : Token) → a ≡ b → t ≡ u → ◌≡◌ {A = ℕ × Token} (a, t) (b, u) = λ a b t u m n. ap₂ (λ (k : ℕ) (l : Token). let r : ℕ × Token = (k, l) in r) m n in
     ap₂ (λ n r. n ∷ r) (pairs x.number y.number x.token y.token p.0 q.0) (named_both xs ys p.1 q.1)
 
-same_node : (x y : TokenNode) → named x ≡ named y → x.partner ≡ y.partner → x ≡ y
+same_node : (x y : TokenNode) → number_and_token x ≡ number_and_token y → x.partner ≡ y.partner → x ≡ y
 same_node x y e p = ap₂ (λ n q. record { number = n.0; token = n.1; partner = q }) e p
 
-differ : (test : Token → Bool) (x y : TokenNode) → named x ≡ named y → test x.token ≡ true → test y.token ≡ false → ⊥
+differ : (test : Token → Bool) (x y : TokenNode) → number_and_token x ≡ number_and_token y → test x.token ≡ true → test y.token ≡ false → ⊥
 differ test x y e h k = both_ways (test y.token) k (sym (ap (λ n. test n.1) e) ∙ h)
 
-same_balanced : {stack xs : List TokenNode} → IsBalanced stack xs → {others ys : List TokenNode} → IsBalanced others ys → map named stack ≡ map named others → map named xs ≡ map named ys
+same_balanced : {stack xs : List TokenNode} → IsBalanced stack xs → {others ys : List TokenNode} → IsBalanced others ys → map number_and_token stack ≡ map number_and_token others → map number_and_token xs ≡ map number_and_token ys
     → (stack ≡ others) × (xs ≡ ys)
 same_balanced done done s e = (refl, refl)
 same_balanced done (opened p k) s e = absurd cc

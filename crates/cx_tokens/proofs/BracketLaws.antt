@@ -5,7 +5,7 @@ use Rattle.std.proofs.lemmas.Slice.Eq.{bytes_eq-Decides}
 use Rattle.cx_base.specs.declared.place.Place.{Place}
 use Rattle.cx_tokens.specs.declared.token.Token.{Token}
 use Rattle.cx_tokens.specs.Brackets.{DoesNotFit, IsNested, IsOpen, IsUnpaired, closes, fits, is_punct, is_punctuator, left_open, more, none, nothing, opens, other, pair, unfit}
-use Rattle.cx_tokens.specs.Pairing.{fault, fits_first, place_first, without_first}
+use Rattle.cx_tokens.specs.Shapes.Pairing.{unpaired_place, fits_first, place_first, without_first}
 
 pub punctuator_text : (text : List ℕ) (t : Token) → is_punctuator text t ≡ true → text ≡ t.text
 unfolding is_punctuator
@@ -76,54 +76,54 @@ nested_append {b = d} (pair a b inner rest e f h i) k =
 
 -- ---- the fault of tokens
 
-pub fault_open : (left : List Token) (t : Token) (ts : List Token) → opens t ≡ true → fault left (t ∷ ts) ≡ fault (t ∷ left) ts
-unfolding fault
+pub fault_open : (left : List Token) (t : Token) (ts : List Token) → opens t ≡ true → unpaired_place left (t ∷ ts) ≡ unpaired_place (t ∷ left) ts
+unfolding unpaired_place
 fault_open left t ts o = cond-true (opens t) _ _ o
 
 pub fault_close : (left : List Token) (t : Token) (ts : List Token) → closes t ≡ true
-    → fault left (t ∷ ts) ≡ cond (fits_first left t) (fault (without_first left) ts) (Some t.place)
-unfolding fault
+    → unpaired_place left (t ∷ ts) ≡ cond (fits_first left t) (unpaired_place (without_first left) ts) (Some t.place)
+unfolding unpaired_place
 fault_close left t ts c = cond-false (opens t) _ _ (closing_opens_not t c) ∙ cond-true (closes t) _ _ c
 
-pub fault_other : (left : List Token) (t : Token) (ts : List Token) → opens t ≡ false → closes t ≡ false → fault left (t ∷ ts) ≡ fault left ts
-unfolding fault
+pub fault_other : (left : List Token) (t : Token) (ts : List Token) → opens t ≡ false → closes t ≡ false → unpaired_place left (t ∷ ts) ≡ unpaired_place left ts
+unfolding unpaired_place
 fault_other left t ts o c = cond-false (opens t) _ _ o ∙ cond-false (closes t) _ _ c
 
-pub fault_end : (left : List Token) → fault left [] ≡ place_first left
-unfolding fault
+pub fault_end : (left : List Token) → unpaired_place left [] ≡ place_first left
+unfolding unpaired_place
 fault_end left = refl
 
-pub fault_nested : {ts : List Token} → IsNested ts → (left rest : List Token) → fault left (ts ++ rest) ≡ fault left rest
+pub fault_nested : {ts : List Token} → IsNested ts → (left rest : List Token) → unpaired_place left (ts ++ rest) ≡ unpaired_place left rest
 fault_nested nothing left last = refl
 fault_nested (other {t = t} {rest = rest} o c h) left last = fault_other left t (rest ++ last) o c ∙ fault_nested h left last
 fault_nested (pair a b inner rest e f h i) left last =
     let p = fitting_parts a b f in
-    ap (λ t. fault left (t ++ last)) e
+    ap (λ t. unpaired_place left (t ++ last)) e
     ∙ fault_open left a ((inner ++ b ∷ rest) ++ last) p.0
-    ∙ ap (fault (a ∷ left)) (append_assoc inner (b ∷ rest) last)
+    ∙ ap (unpaired_place (a ∷ left)) (append_assoc inner (b ∷ rest) last)
     ∙ fault_nested h (a ∷ left) (b ∷ (rest ++ last))
     ∙ fault_close (a ∷ left) b (rest ++ last) p.1
     ∙ cond-true (fits a b) _ _ f
     ∙ fault_nested i left last
 
-pub nested_no_fault : {ts : List Token} → IsNested ts → fault [] ts ≡ None
-nested_no_fault {ts = ts} h = ap (fault []) (sym (append-nil ts)) ∙ fault_nested h [] [] ∙ fault_end []
+pub nested_no_fault : {ts : List Token} → IsNested ts → unpaired_place [] ts ≡ None
+nested_no_fault {ts = ts} h = ap (unpaired_place []) (sym (append-nil ts)) ∙ fault_nested h [] [] ∙ fault_end []
 
-fault_opened : {front left : List Token} → IsOpen front left → (rest : List Token) → fault [] (front ++ rest) ≡ fault left rest
+fault_opened : {front left : List Token} → IsOpen front left → (rest : List Token) → unpaired_place [] (front ++ rest) ≡ unpaired_place left rest
 fault_opened (none h) rest = fault_nested h [] rest
 fault_opened (more {left = left} {a = a} front inner e h o i) rest =
-    ap (λ t. fault [] (t ++ rest)) e ∙ ap (fault []) (append_assoc front (a ∷ inner) rest) ∙ fault_opened h (a ∷ (inner ++ rest))
+    ap (λ t. unpaired_place [] (t ++ rest)) e ∙ ap (unpaired_place []) (append_assoc front (a ∷ inner) rest) ∙ fault_opened h (a ∷ (inner ++ rest))
     ∙ fault_open left a (inner ++ rest) o ∙ fault_nested i (a ∷ left) rest
 
 not_fitting : (left : List Token) (b : Token) → DoesNotFit left b → fits_first left b ≡ false
 not_fitting [] b h = refl
 not_fitting (a ∷ left) b h = h
 
-pub unpaired_fault : {ts : List Token} {p : Place} → IsUnpaired ts p → fault [] ts ≡ Some p
+pub unpaired_fault : {ts : List Token} {p : Place} → IsUnpaired ts p → unpaired_place [] ts ≡ Some p
 unpaired_fault (unfit b front rest left e h c d) =
-    ap (fault []) e ∙ fault_opened h (b ∷ rest) ∙ fault_close left b rest c ∙ cond-false (fits_first left b) _ _ (not_fitting left b d)
+    ap (unpaired_place []) e ∙ fault_opened h (b ∷ rest) ∙ fault_close left b rest c ∙ cond-false (fits_first left b) _ _ (not_fitting left b d)
 unpaired_fault (left_open {all = all} a left h) =
-    ap (fault []) (sym (append-nil all)) ∙ fault_opened h [] ∙ fault_end (a ∷ left)
+    ap (unpaired_place []) (sym (append-nil all)) ∙ fault_opened h [] ∙ fault_end (a ∷ left)
 
 pub nested_not_unpaired : {ts : List Token} {p : Place} → IsNested ts → IsUnpaired ts p → ⊥
 nested_not_unpaired h k = let a = nested_no_fault h in let b = unpaired_fault k in cc

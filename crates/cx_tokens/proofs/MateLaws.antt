@@ -2,10 +2,10 @@
 use Rattle.std.proofs.Common.{◌≡◌, ℕ, arith, List, [], ◌∷◌, ◌++◌, Some, sym, ap, ◌∙◌, subst, append_assoc, append-nil, map, length, ◌==◌}
 use Rattle.std.specs.List.{AllByRecursion, IsDistinct, list_any}
 use Rattle.std.proofs.lemmas.List.{length-map}
-use Rattle.cx_tokens.specs.Nodes.{IsTokenList, TokenNode, before, behind, is_live, partner_in, partner_of}
+use Rattle.cx_tokens.specs.Nodes.{IsTokenList, TokenNode, nodes_before, nodes_after, is_live, partner_in, partner_of}
 use Rattle.cx_tokens.specs.Brackets.{IsPaired, nothing, other, pair}
-use Rattle.cx_tokens.specs.Edits.{IsKept}
-use Rattle.cx_tokens.specs.Pairing.{named}
+use Rattle.cx_tokens.specs.Shapes.Edits.{IsValidList}
+use Rattle.cx_tokens.specs.Shapes.Pairing.{number_and_token}
 use Rattle.cx_tokens.proofs.NodeLaws.{IsNumbered, found, partner_live}
 use Rattle.cx_tokens.proofs.PartLaws.{gone_live, node_at}
 use Rattle.cx_tokens.proofs.BalanceLaws.{named_parts}
@@ -63,7 +63,7 @@ mated_mutual : (all : List TokenNode) → IsNumbered all → AreMated all all �
 mated_mutual all d h n m e =
     let f = found n all (partner_live n m all e) in
     let p : f.node.partner ≡ Some m = sym (ap partner_in f.is_node) ∙ e in
-    mate_partner all f.node m d (mated_at all (before n all) (behind n all) f.node (subst (AreMated all) f.whole h) m p) ∙ ap Some f.number
+    mate_partner all f.node m d (mated_at all (nodes_before n all) (nodes_after n all) f.node (subst (AreMated all) f.whole h) m p) ∙ ap Some f.number
 
 pub paired_list : (all : List TokenNode) → IsPaired all → IsNumbered all → IsTokenList all
 paired_list all h d = record { distinct = d; mutual_partners = mated_mutual all d (paired_mated h all [] [] (sym (append-nil all))) }
@@ -71,12 +71,12 @@ paired_list all h d = record { distinct = d; mutual_partners = mated_mutual all 
 pub live_named : (xs ys : List TokenNode) (n : ℕ) → map (λ x. x.number) xs ≡ map (λ x. x.number) ys → is_live n xs ≡ is_live n ys
 live_named xs ys n e = sym (gone_live xs n) ∙ ap (list_any (λ g. g == n)) e ∙ gone_live ys n
 
-pub kept_paired : (old new : List TokenNode) (next room more : ℕ) (opened left : List ℕ) → IsKept old next room opened → IsPaired new → map named new ≡ map named old → more ≡ room → left ≡ [] → IsKept new next more left
+pub kept_paired : (old new : List TokenNode) (next room more : ℕ) (opened left : List ℕ) → IsValidList old next room opened → IsPaired new → map number_and_token new ≡ map number_and_token old → more ≡ room → left ≡ [] → IsValidList new next more left
 kept_paired old new next room more opened left k p e r none =
     let numbers = (named_parts new old e).0 in
     record {
       is_list = paired_list new p (subst (IsDistinct (λ a b. a == b)) (sym numbers) k.is_list.distinct);
       below = λ n l. k.below n (sym (live_named new old n numbers) ∙ l);
-      enough = let a = ap length e in let b = length-map new named in let c = length-map old named in let d = k.enough in omega arith;
+      enough = let a = ap length e in let b = length-map new number_and_token in let c = length-map old number_and_token in let d = k.enough in omega arith;
       none_open = none;
     }

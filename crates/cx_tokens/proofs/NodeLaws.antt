@@ -4,7 +4,7 @@ use Rattle.std.specs.List.{AllByRecursion, IsDistinct}
 use Rattle.std.proofs.lemmas.Bool.{cases_Bool, or_cases, or_from, or_left, or_parts, or_right, eqb-true, eq-eqb}
 use Rattle.std.proofs.lemmas.Bool.Decides.{nat_tests}
 use Rattle.std.proofs.lemmas.List.Folds.{list_any-append}
-use Rattle.cx_tokens.specs.Nodes.{TokenNode, before, behind, from_on, is_live, node_of, partner_in, partner_of, up_to}
+use Rattle.cx_tokens.specs.Nodes.{TokenNode, nodes_before, nodes_after, nodes_from, is_live, node_of, partner_in, partner_of, nodes_to}
 
 -- the numbers are distinct
 abbrev pub IsNumbered : List TokenNode → Type 0
@@ -109,15 +109,15 @@ partner_live n m a h =
 
 pub record Found (n : ℕ) (nodes : List TokenNode) : Type 0 where
   pub node : TokenNode
-  pub whole : nodes ≡ before n nodes ++ node ∷ behind n nodes
+  pub whole : nodes ≡ nodes_before n nodes ++ node ∷ nodes_after n nodes
   pub number : node.number ≡ n
   pub is_node : node_of n nodes ≡ Some node
-  pub from_there : from_on n nodes ≡ node ∷ behind n nodes
-  pub up_there : up_to n nodes ≡ before n nodes ++ node ∷ []
-  pub not_before : is_live n (before n nodes) ≡ false
+  pub from_there : nodes_from n nodes ≡ node ∷ nodes_after n nodes
+  pub up_there : nodes_to n nodes ≡ nodes_before n nodes ++ node ∷ []
+  pub not_before : is_live n (nodes_before n nodes) ≡ false
 
 found_here : (n : ℕ) (x : TokenNode) (xs : List TokenNode) → (x.number == n) ≡ true → Found n (x ∷ xs)
-unfolding before behind from_on up_to
+unfolding nodes_before nodes_after nodes_from nodes_to
 found_here n x xs e = record {
   node = x;
   whole = rw e;
@@ -129,7 +129,7 @@ found_here n x xs e = record {
 }
 
 found_later : (n : ℕ) (x : TokenNode) (xs : List TokenNode) → (x.number == n) ≡ false → Found n xs → Found n (x ∷ xs)
-unfolding before behind from_on up_to
+unfolding nodes_before nodes_after nodes_from nodes_to
 found_later n x xs e f = record {
   node = f.node;
   whole = rw e (ap (λ t. x ∷ t) f.whole);

@@ -5,15 +5,15 @@ use Rattle.cx_base.specs.declared.place.Place.{Place}
 use Rattle.cx_tokens.specs.declared.token.Token.{Token}
 use Rattle.cx_tokens.specs.Nodes.{TokenNode, tokens}
 use Rattle.cx_tokens.specs.Brackets.{DoesNotFit, IsNested, IsOpen, IsUnpaired, closes, fits, left_open, more, none, nothing, opens, other, pair, unfit}
-use Rattle.cx_tokens.specs.Pairing.{AreNested, AreOpen, Innermost, IsRead}
+use Rattle.cx_tokens.specs.Shapes.Pairing.{AreNested, AreOpen, Innermost, IsRead}
 use Rattle.cx_tokens.proofs.BracketLaws.{nested_append}
 
 -- ---- what stays open
 
-pub open_append : (Good : List TokenNode → Type 0) (f g : List TokenNode) (js : List ℕ) (left : List Token) → AreOpen Good f js left → ((i : List TokenNode) → Good i → Good (i ++ g))
-    → AreOpen Good (f ++ g) js left
-open_append Good f g [] left h k = (k f h.0, h.1)
-open_append Good f g (j ∷ js) left h k = record {
+pub open_append : (IsInner : List TokenNode → Type 0) (f g : List TokenNode) (js : List ℕ) (left : List Token) → AreOpen IsInner f js left → ((i : List TokenNode) → IsInner i → IsInner (i ++ g))
+    → AreOpen IsInner (f ++ g) js left
+open_append IsInner f g [] left h k = (k f h.0, h.1)
+open_append IsInner f g (j ∷ js) left h k = record {
   bracket = h.bracket;
   front = h.front;
   inner = h.inner ++ g;
@@ -22,13 +22,13 @@ open_append Good f g (j ∷ js) left h k = record {
   index = h.index;
   is_left = h.is_left;
   is_opening = h.is_opening;
-  good = k h.inner h.good;
+  inner_is = k h.inner h.inner_is;
   before_it = h.before_it;
 }
 
-pub open_push : (Good : List TokenNode → Type 0) (f : List TokenNode) (x : TokenNode) (js : List ℕ) (left : List Token) → AreOpen Good f js left → Good [] → opens x.token ≡ true
-    → AreOpen Good (f ++ x ∷ []) (length f ∷ js) (x.token ∷ left)
-open_push Good f x js left h n o = record {
+pub open_push : (IsInner : List TokenNode → Type 0) (f : List TokenNode) (x : TokenNode) (js : List ℕ) (left : List Token) → AreOpen IsInner f js left → IsInner [] → opens x.token ≡ true
+    → AreOpen IsInner (f ++ x ∷ []) (length f ∷ js) (x.token ∷ left)
+open_push IsInner f x js left h n o = record {
   bracket = x;
   front = f;
   inner = [];
@@ -37,7 +37,7 @@ open_push Good f x js left h n o = record {
   index = refl;
   is_left = refl;
   is_opening = o;
-  good = n;
+  inner_is = n;
   before_it = h;
 }
 
@@ -48,7 +48,7 @@ pub open_tokens : (all : List TokenNode) (js : List ℕ) (left : List Token) →
 open_tokens all [] left h = subst (IsOpen (tokens all)) (sym h.1) (none h.0)
 open_tokens all (j ∷ js) left h =
     subst (IsOpen (tokens all)) (sym h.is_left)
-    (more (tokens h.front) (tokens h.inner) (ap tokens h.whole ∙ tokens_append h.front (h.bracket ∷ h.inner)) (open_tokens h.front js h.lefts h.before_it) h.is_opening h.good)
+    (more (tokens h.front) (tokens h.inner) (ap tokens h.whole ∙ tokens_append h.front (h.bracket ∷ h.inner)) (open_tokens h.front js h.lefts h.before_it) h.is_opening h.inner_is)
 
 -- ---- the stack has the innermost last
 
@@ -99,7 +99,7 @@ read_close f x s j h k =
     record {
       left = m.lefts;
       are_open = subst (λ t. AreOpen AreNested t (reverse s) m.lefts) (sym (ap (λ t. t ++ x ∷ []) m.whole ∙ append_assoc m.front (m.bracket ∷ m.inner) (x ∷ [])))
-          (open_append AreNested m.front (m.bracket ∷ (m.inner ++ x ∷ [])) (reverse s) m.lefts m.before_it (pair_nested m.bracket x m.inner k m.good));
+          (open_append AreNested m.front (m.bracket ∷ (m.inner ++ x ∷ [])) (reverse s) m.lefts m.before_it (pair_nested m.bracket x m.inner k m.inner_is));
     }
 
 pub read_unfit : (f back : List TokenNode) (x : TokenNode) (s : List ℕ) (j : ℕ) → (h : IsRead f (s ++ j ∷ [])) → closes x.token ≡ true → fits (innermost f s j h).bracket.token x.token ≡ false

@@ -2,8 +2,8 @@
 use Rattle.std.proofs.Common.{◌≡◌, ℕ, List, [], ◌∷◌, ◌++◌, Option, Some, None, Bool, true, false, ◌||◌, refl, sym, ap, ap₂, ◌∙◌, subst, append_assoc, ⊎_elim, cond, map, ◌==◌}
 use Rattle.std.specs.List.{AllByRecursion, IsDistinct, list_any}
 use Rattle.std.proofs.lemmas.Bool.{cond-true, cond-false, cases_Bool, or_left, eq-eqb, false_from_ne_true}
-use Rattle.cx_tokens.specs.Nodes.{IsTokenList, TokenNode, is_live, live_partner, node_of, partner_in, partner_of, settled}
-use Rattle.cx_tokens.specs.Edits.{parted, parted_one, without}
+use Rattle.cx_tokens.specs.Nodes.{IsTokenList, TokenNode, is_live, live_partner, node_of, partner_in, partner_of, with_live_partners}
+use Rattle.cx_tokens.specs.Shapes.Edits.{without_partners, without_partner, partner_unless}
 use Rattle.cx_tokens.proofs.NodeLaws.{IsNumbered, dead_both, dead_parts, live_cases, live_left, live_right, node_left, node_right, numbered_append, numbered_apart, numbered_left, numbered_right, partner_live}
 
 -- ---- settled lists
@@ -18,16 +18,16 @@ live_settled_in : (all xs : List TokenNode) (n : ℕ) → is_live n (settled_in 
 live_settled_in all [] n = refl
 live_settled_in all (x ∷ xs) n = ap (λ t. (x.number == n) || t) (live_settled_in all xs n)
 
-pub live_settled : (xs : List TokenNode) (n : ℕ) → is_live n (settled xs) ≡ is_live n xs
-unfolding settled
+pub live_settled : (xs : List TokenNode) (n : ℕ) → is_live n (with_live_partners xs) ≡ is_live n xs
+unfolding with_live_partners
 live_settled xs n = live_settled_in xs xs n
 
 numbers_settled_in : (all xs : List TokenNode) → map (λ x. x.number) (settled_in all xs) ≡ map (λ x. x.number) xs
 numbers_settled_in all [] = refl
 numbers_settled_in all (x ∷ xs) = ap (λ t. x.number ∷ t) (numbers_settled_in all xs)
 
-pub numbers_settled : (xs : List TokenNode) → map (λ x. x.number) (settled xs) ≡ map (λ x. x.number) xs
-unfolding settled
+pub numbers_settled : (xs : List TokenNode) → map (λ x. x.number) (with_live_partners xs) ≡ map (λ x. x.number) xs
+unfolding with_live_partners
 numbers_settled xs = numbers_settled_in xs xs
 
 partner_settled_in : (all xs : List TokenNode) (n : ℕ) → partner_of n (settled_in all xs) ≡ live_partner all (partner_of n xs)
@@ -37,8 +37,8 @@ partner_settled_in all (x ∷ xs) n =
     as (λ t. partner_in (cond t (Some (record { number = x.number; token = x.token; partner = live_partner all x.partner })) (node_of n (settled_in all xs))) ≡ live_partner all (partner_in (cond t (Some x) (node_of n xs))))
     [ true ↦ refl | false ↦ partner_settled_in all xs n ]
 
-partner_settled : (xs : List TokenNode) (n : ℕ) → partner_of n (settled xs) ≡ live_partner xs (partner_of n xs)
-unfolding settled
+partner_settled : (xs : List TokenNode) (n : ℕ) → partner_of n (with_live_partners xs) ≡ live_partner xs (partner_of n xs)
+unfolding with_live_partners
 partner_settled xs n = partner_settled_in xs xs n
 
 live_partner_parts : (all : List TokenNode) (o : Option ℕ) (m : ℕ) → live_partner all o ≡ Some m → (o ≡ Some m) × (is_live m all ≡ true)
@@ -52,14 +52,14 @@ live_partner_parts all (Some k) m h =
 live_partner_live : (all : List TokenNode) (m : ℕ) → is_live m all ≡ true → live_partner all (Some m) ≡ Some m
 live_partner_live all m h = cond-true (is_live m all) (Some m) None h
 
--- ---- a list that keeps nodes of another, with others that have no partner
+-- ---- a list that partners_kept nodes of another, with others that have no partner
 
 pub record Keeps (nodes rest : List TokenNode) : Type 0 where
   pub numbered : IsNumbered rest
   pub same : (n : ℕ) → is_live n rest ≡ true → is_live n nodes ≡ true → node_of n rest ≡ node_of n nodes
   pub alone : (n : ℕ) → is_live n rest ≡ true → is_live n nodes ≡ false → partner_of n rest ≡ None
 
-settled_mutual : (nodes rest : List TokenNode) → IsTokenList nodes → Keeps nodes rest → (n m : ℕ) → partner_of n (settled rest) ≡ Some m → partner_of m (settled rest) ≡ Some n
+settled_mutual : (nodes rest : List TokenNode) → IsTokenList nodes → Keeps nodes rest → (n m : ℕ) → partner_of n (with_live_partners rest) ≡ Some m → partner_of m (with_live_partners rest) ≡ Some n
 settled_mutual nodes rest l k n m e =
     let p = live_partner_parts rest (partner_of n rest) m (sym (partner_settled rest n) ∙ e) in
     let r : is_live n rest ≡ true = partner_live n m rest p.0 in
@@ -71,7 +71,7 @@ settled_mutual nodes rest l k n m e =
     (λ (dead : is_live n nodes ≡ false). absurd (let a = k.alone n r dead in let q = p.0 in cc))
     (cases_Bool (is_live n nodes))
 
-pub settled_list : (nodes rest : List TokenNode) → IsTokenList nodes → Keeps nodes rest → IsTokenList (settled rest)
+pub settled_list : (nodes rest : List TokenNode) → IsTokenList nodes → Keeps nodes rest → IsTokenList (with_live_partners rest)
 settled_list nodes rest l k = record {
   distinct = subst (λ t. IsDistinct (λ a b. a == b) t) (sym (numbers_settled rest)) k.numbered;
   mutual_partners = settled_mutual nodes rest l k;
@@ -128,8 +128,8 @@ kept_alone front run back news f n r l =
     (live_cases n front (news ++ back) r) in
     ap partner_in (node_right n front (news ++ back) p.0 ∙ node_left n news back there) ∙ alone_partner n news f.alone
 
-pub keeps : (front run back news : List TokenNode) → IsNumbered (front ++ (run ++ back)) → IsFresh news (front ++ (run ++ back)) → Keeps (front ++ (run ++ back)) (front ++ (news ++ back))
-keeps front run back news d f = record {
+pub partners_kept : (front run back news : List TokenNode) → IsNumbered (front ++ (run ++ back)) → IsFresh news (front ++ (run ++ back)) → Keeps (front ++ (run ++ back)) (front ++ (news ++ back))
+partners_kept front run back news d f = record {
   numbered = kept_numbered front run back news d f;
   same = kept_same front run back news d f;
   alone = kept_alone front run back news f;
@@ -185,8 +185,8 @@ gone_live [] m = refl
 gone_live (x ∷ xs) m = ap (λ t. (x.number == m) || t) (gone_live xs m)
 
 mate_parted : (front run back news : List TokenNode) → IsNumbered (front ++ (run ++ back)) → IsFresh news (front ++ (run ++ back)) → (o : Option ℕ) → IsMate (front ++ (run ++ back)) o
-    → live_partner (front ++ (news ++ back)) o ≡ without (map (λ x. x.number) run) o
-unfolding without
+    → live_partner (front ++ (news ++ back)) o ≡ partner_unless (map (λ x. x.number) run) o
+unfolding partner_unless
 mate_parted front run back news d f None h = refl
 mate_parted front run back news d f (Some m) h =
     let no_news : is_live m news ≡ false = false_from_ne_true (is_live m news) (λ e. not_both h (f.fresh m e)) in
@@ -208,16 +208,16 @@ mate_parted front run back news d f (Some m) h =
     ∙ sym (cond-false (list_any (λ g. g == m) (map (λ x. x.number) run)) None (Some m) (gone_live run m ∙ e)))
     (cases_Bool (is_live m run))
 
-parted_each : (nodes all xs : List TokenNode) (gone : List ℕ) → ((o : Option ℕ) → IsMate nodes o → live_partner all o ≡ without gone o) → AreMates nodes xs
-    → settled_in all xs ≡ parted gone xs
-unfolding parted parted_one
+parted_each : (nodes all xs : List TokenNode) (gone : List ℕ) → ((o : Option ℕ) → IsMate nodes o → live_partner all o ≡ partner_unless gone o) → AreMates nodes xs
+    → settled_in all xs ≡ without_partners gone xs
+unfolding without_partners without_partner
 parted_each nodes all [] gone f h = refl
 parted_each nodes all (x ∷ xs) gone f h =
     ap₂ (λ p t. record { number = x.number; token = x.token; partner = p } ∷ t) (f x.partner h.0) (parted_each nodes all xs gone f h.1)
 
 pub settled_parted : (front run back news : List TokenNode) → IsTokenList (front ++ (run ++ back)) → IsFresh news (front ++ (run ++ back))
-    → settled (front ++ (news ++ back)) ≡ parted (map (λ x. x.number) run) (front ++ (news ++ back))
-unfolding settled
+    → with_live_partners (front ++ (news ++ back)) ≡ without_partners (map (λ x. x.number) run) (front ++ (news ++ back))
+unfolding with_live_partners
 settled_parted front run back news l f =
     let nodes = front ++ (run ++ back) in
     let m = mates_behind [] nodes l in
@@ -225,12 +225,12 @@ settled_parted front run back news l f =
     (mates_both nodes front (news ++ back) (mates_left nodes front (run ++ back) m)
     (mates_both nodes news back (alone_mates nodes news f.alone) (mates_right nodes run back (mates_right nodes front (run ++ back) m))))
 
-none_without : (o : Option ℕ) → without [] o ≡ o
-unfolding without
+none_without : (o : Option ℕ) → partner_unless [] o ≡ o
+unfolding partner_unless
 none_without None = refl
 none_without (Some m) = refl
 
-pub none_parted : (xs : List TokenNode) → parted [] xs ≡ xs
-unfolding parted parted_one
+pub none_parted : (xs : List TokenNode) → without_partners [] xs ≡ xs
+unfolding without_partners without_partner
 none_parted [] = refl
 none_parted (x ∷ xs) = ap₂ (λ p t. record { number = x.number; token = x.token; partner = p } ∷ t) (none_without x.partner) (none_parted xs)

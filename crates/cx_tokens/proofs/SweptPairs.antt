@@ -1,16 +1,17 @@
 -- The sweep keeps brackets paired, and the nodes a token list.
 use Rattle.std.proofs.Common.{◌≡◌, ℕ, ◌≤◌, arith, List, [], ◌∷◌, ◌++◌, Option, Some, None, IfSome, IsTrue, Bool, true, false, not, ◌&&◌, refl, sym, ap, ◌∙◌, subst, append-nil, cond, codes, length, ⊎_elim, ◌==◌}
+use Rattle.std.specs.List.{AllByRecursion}
 use Rattle.std.proofs.lemmas.Bool.{and_left, and_parts, both_ways, cases_Bool, cond-true, cond-false, eq-eqb, false_from_ne_true, or_cases, or_from, or_left, or_right}
 use Rattle.cx_tokens.specs.declared.simplify.State.{State}
-use Rattle.cx_tokens.specs.declared.simplify.State.TheVariants.{Behind, Plain, Within}
+use Rattle.cx_tokens.specs.declared.simplify.State.TheVariants.{AfterWord, Plain, Within}
 use Rattle.cx_tokens.specs.declared.token.Kind.{Kind}
 use Rattle.cx_tokens.specs.declared.token.Kind.TheVariants as kinds
 use Rattle.cx_tokens.specs.declared.token.Token.{Token}
-use Rattle.cx_tokens.specs.Nodes.{TokenNode, before, behind, from_on, is_live, node_of, partner_in, partner_of}
+use Rattle.cx_tokens.specs.Nodes.{TokenNode, nodes_before, nodes_after, nodes_from, is_live, node_of, partner_in, partner_of}
 use Rattle.cx_tokens.specs.Brackets.{IsPaired, closes, is_punct, is_punctuator, opens}
 use Rattle.cx_tokens.specs.Simplified.{attribute_words, is_name, is_string, is_word_of, joined, lone_words}
-use Rattle.cx_tokens.specs.Edits.{IsKept}
-use Rattle.cx_tokens.specs.Sweeping.{IsStopped, after, are_strings, entered, joined_node, keeps, kept, put_all, put_one, state_behind}
+use Rattle.cx_tokens.specs.Shapes.Edits.{IsValidList}
+use Rattle.cx_tokens.specs.Shapes.Sweeping.{IsStopped, state_after, are_strings, state_at, joined_node, node_stays, staying_nodes, all_joined_to_end, joined_to_end, state_after_all}
 use Rattle.cx_tokens.proofs.NodeLaws.{IsNumbered, found, numbered_cons, numbered_head, numbered_tail, own_number, partner_live}
 use Rattle.cx_tokens.proofs.BracketLaws.{closing_opens_not, fitting_parts}
 use Rattle.cx_tokens.proofs.BalanceLaws.{IsBalanced, balanced_paired, closed, done, is_balanced, opened, passed}
@@ -107,7 +108,7 @@ record Skips (n : ℕ) (stack xs : List TokenNode) : Type 0 where
 
 Held : State → List TokenNode → List TokenNode → Type 0
 Held Plain stack xs = IsBalanced stack xs
-Held Behind stack xs = IsBalanced stack xs
+Held AfterWord stack xs = IsBalanced stack xs
 Held (Within n) stack xs = Skips n stack xs
 
 -- nodes are swept, and what is left is held
@@ -117,27 +118,27 @@ record Goes (stack made : List TokenNode) (state : State) (rest : List TokenNode
   back : (ys : List TokenNode) → IsBalanced next ys → IsBalanced stack (made ++ ys)
 
 abbrev StepOf : State → List TokenNode → TokenNode → List TokenNode → Type 0
-StepOf state stack x xs = Goes stack (cond (keeps state x) (x ∷ []) []) (after state x) xs
+StepOf state stack x xs = Goes stack (cond (node_stays state x) (x ∷ []) []) (state_after state x) xs
 
 step_plain_cases : (word lone : Bool) (stack : List TokenNode) (x : TokenNode) (xs : List TokenNode) → IsBalanced stack (x ∷ xs) → (word ≡ true → (opens x.token ≡ false) × (closes x.token ≡ false))
-    → (lone ≡ true → (opens x.token ≡ false) × (closes x.token ≡ false)) → Goes stack (cond (not word && not lone) (x ∷ []) []) (cond word Behind Plain) xs
+    → (lone ≡ true → (opens x.token ≡ false) × (closes x.token ≡ false)) → Goes stack (cond (not word && not lone) (x ∷ []) []) (cond word AfterWord Plain) xs
 unfolding Held
 step_plain_cases true lone stack x xs h f g = let p = f refl in record { next = stack; held = (pass h p.0 p.1).0; back = λ ys k. k }
 step_plain_cases false true stack x xs h f g = let p = g refl in record { next = stack; held = (pass h p.0 p.1).0; back = λ ys k. k }
 step_plain_cases false false stack x xs h f g = let o = onward h in record { next = o.next; held = o.balanced; back = o.back }
 
 step_plain : (stack : List TokenNode) (x : TokenNode) (xs : List TokenNode) → IsBalanced stack (x ∷ xs) → StepOf Plain stack x xs
-unfolding keeps after
+unfolding node_stays state_after
 step_plain stack x xs h =
     step_plain_cases (is_word_of attribute_words x.token) (is_word_of lone_words x.token) stack x xs h (word_no_bracket attribute_words x.token) (word_no_bracket lone_words x.token)
 
 still_within : (n : ℕ) (stack : List TokenNode) (x : TokenNode) (xs : List TokenNode) → (x.number == n) ≡ false → Skips n stack xs → StepOf (Within n) stack x xs
-unfolding keeps after Held
+unfolding node_stays state_after Held
 still_within n stack x xs e h =
     subst (λ s. Goes stack [] s xs) (sym (cond-false (x.number == n) Plain (Within n) e)) (record { next = stack; held = h; back = λ ys k. k })
 
 ends_within : (n : ℕ) (stack : List TokenNode) (x : TokenNode) (xs : List TokenNode) → (x.number == n) ≡ true → IsBalanced stack xs → StepOf (Within n) stack x xs
-unfolding keeps after Held
+unfolding node_stays state_after Held
 ends_within n stack x xs e h =
     subst (λ s. Goes stack [] s xs) (sym (cond-true (x.number == n) Plain (Within n) e)) (record { next = stack; held = h; back = λ ys k. k })
 
@@ -157,8 +158,8 @@ within_cases {xs = xs} {x = x} (passed o c m h) n above a stack e p d =
     let k = subst (λ t. IsBalanced t xs) e h in
     still_within n stack x xs (later_number n above a x stack k p d) (record { above = above; bracket = a; balanced = k; partner = p })
 
-step_behind : (stack : List TokenNode) (x : TokenNode) (xs : List TokenNode) → IsBalanced stack (x ∷ xs) → IsNumbered (x ∷ xs) → StepOf (entered Behind x) stack x xs
-unfolding entered
+step_behind : (stack : List TokenNode) (x : TokenNode) (xs : List TokenNode) → IsBalanced stack (x ∷ xs) → IsNumbered (x ∷ xs) → StepOf (state_at AfterWord x) stack x xs
+unfolding state_at
 step_behind stack x xs h d =
     ⊎_elim
     (λ (b : is_punctuator (codes "(") x.token ≡ true).
@@ -169,10 +170,10 @@ step_behind stack x xs h d =
     (λ (b : is_punctuator (codes "(") x.token ≡ false). subst (λ s. StepOf s stack x xs) (sym (at_other x b)) (step_plain stack x xs h))
     (cases_Bool (is_punctuator (codes "(") x.token))
 
-one_step : (state : State) (stack : List TokenNode) (x : TokenNode) (xs : List TokenNode) → Held state stack (x ∷ xs) → IsNumbered (x ∷ xs) → StepOf (entered state x) stack x xs
-unfolding Held entered
+one_step : (state : State) (stack : List TokenNode) (x : TokenNode) (xs : List TokenNode) → Held state stack (x ∷ xs) → IsNumbered (x ∷ xs) → StepOf (state_at state x) stack x xs
+unfolding Held state_at
 one_step Plain stack x xs h d = step_plain stack x xs h
-one_step Behind stack x xs h d = step_behind stack x xs h d
+one_step AfterWord stack x xs h d = step_behind stack x xs h d
 one_step (Within n) stack x xs h d = within_cases h.balanced n h.above h.bracket stack refl h.partner d
 
 goes_on : (stays : Bool) (stack : List TokenNode) (x : TokenNode) (made : List TokenNode) (state last : State) (xs rest : List TokenNode) → (g : Goes stack (cond stays (x ∷ []) []) state xs) → Goes g.next made last rest
@@ -180,13 +181,13 @@ goes_on : (stays : Bool) (stack : List TokenNode) (x : TokenNode) (made : List T
 goes_on true stack x made state last xs rest g h = record { next = h.next; held = h.held; back = λ ys k. g.back (made ++ ys) (h.back ys k) }
 goes_on false stack x made state last xs rest g h = record { next = h.next; held = h.held; back = λ ys k. g.back (made ++ ys) (h.back ys k) }
 
-sweeps : (state : State) (stack front rest : List TokenNode) → Held state stack (front ++ rest) → IsNumbered (front ++ rest) → Goes stack (kept state front) (state_behind state front) rest
-unfolding kept state_behind
+sweeps : (state : State) (stack front rest : List TokenNode) → Held state stack (front ++ rest) → IsNumbered (front ++ rest) → Goes stack (staying_nodes state front) (state_after_all state front) rest
+unfolding staying_nodes state_after_all
 sweeps state stack [] rest h d = record { next = stack; held = h; back = λ ys k. k }
 sweeps state stack (x ∷ front) rest h d =
     let g = one_step state stack x (front ++ rest) h d in
-    let next = after (entered state x) x in
-    goes_on (keeps (entered state x) x) stack x (kept next front) next (state_behind next front) (front ++ rest) rest g
+    let next = state_after (state_at state x) x in
+    goes_on (node_stays (state_at state x) x) stack x (staying_nodes next front) next (state_after_all next front) (front ++ rest) rest g
     (sweeps next g.next front rest g.held (numbered_tail x (front ++ rest) d))
 
 -- ---- strings that are joined
@@ -201,38 +202,38 @@ join_balanced x y s h =
     let p = pass h first.0 first.1 in
     passed here.0 here.1 p.1 (pass p.0 second.0 second.1).0
 
-put_balanced : (d : List TokenNode) (y : TokenNode) (stack rest : List TokenNode) → IsBalanced stack (d ++ y ∷ rest) → IsBalanced stack (put_one d y ++ rest)
-unfolding put_one
+put_balanced : (d : List TokenNode) (y : TokenNode) (stack rest : List TokenNode) → IsBalanced stack (d ++ y ∷ rest) → IsBalanced stack (joined_to_end d y ++ rest)
+unfolding joined_to_end
 put_balanced [] y stack rest h = h
 put_balanced (x ∷ []) y stack rest h =
     elim (are_strings x y) as (λ b. are_strings x y ≡ b → IsBalanced stack (cond b (joined_node x y ∷ []) (x ∷ y ∷ []) ++ rest))
     [ true ↦ λ s. join_balanced x y s h | false ↦ λ s. h ] refl
-put_balanced (x ∷ z ∷ d) y stack rest h = let o = onward h in o.back (put_one (z ∷ d) y ++ rest) (put_balanced (z ∷ d) y o.next rest o.balanced)
+put_balanced (x ∷ z ∷ d) y stack rest h = let o = onward h in o.back (joined_to_end (z ∷ d) y ++ rest) (put_balanced (z ∷ d) y o.next rest o.balanced)
 
-put_all_balanced : (d xs stack rest : List TokenNode) → IsBalanced stack (d ++ (xs ++ rest)) → IsBalanced stack (put_all d xs ++ rest)
-unfolding put_all
+put_all_balanced : (d xs stack rest : List TokenNode) → IsBalanced stack (d ++ (xs ++ rest)) → IsBalanced stack (all_joined_to_end d xs ++ rest)
+unfolding all_joined_to_end
 put_all_balanced d [] stack rest h = h
-put_all_balanced d (x ∷ xs) stack rest h = put_all_balanced (put_one d x) xs stack rest (put_balanced d x stack (xs ++ rest) h)
+put_all_balanced d (x ∷ xs) stack rest h = put_all_balanced (joined_to_end d x) xs stack rest (put_balanced d x stack (xs ++ rest) h)
 
 -- ---- the brackets stay paired
 
 whole_held : (state : State) (stack : List TokenNode) → Held state stack [] → IsBalanced stack []
 unfolding Held
 whole_held Plain stack h = h
-whole_held Behind stack h = h
+whole_held AfterWord stack h = h
 whole_held (Within n) stack h = let r = later h.balanced h.above h.bracket stack refl in absurd (let a = r.2 in cc)
 
-pub whole_paired : (old : List TokenNode) → IsPaired old → IsNumbered old → IsPaired (put_all [] (kept Plain old))
+pub whole_paired : (old : List TokenNode) → IsPaired old → IsNumbered old → IsPaired (all_joined_to_end [] (staying_nodes Plain old))
 unfolding Held
 whole_paired old h d =
     let all = sym (append-nil old) in
     let g = sweeps Plain [] old [] (subst (IsBalanced []) all (is_balanced h)) (subst IsNumbered all d) in
-    balanced_paired (subst (IsBalanced []) (append-nil (put_all [] (kept Plain old))) (put_all_balanced [] (kept Plain old) [] [] (g.back [] (whole_held (state_behind Plain old) g.next g.held))))
+    balanced_paired (subst (IsBalanced []) (append-nil (all_joined_to_end [] (staying_nodes Plain old))) (put_all_balanced [] (staying_nodes Plain old) [] [] (g.back [] (whole_held (state_after_all Plain old) g.next g.held))))
 
-part_held : (state : State) (stack : List TokenNode) (x : TokenNode) (xs : List TokenNode) → keeps (entered state x) x ≡ true → Held state stack (x ∷ xs) → IsBalanced stack (x ∷ xs)
-unfolding Held entered keeps
+part_held : (state : State) (stack : List TokenNode) (x : TokenNode) (xs : List TokenNode) → node_stays (state_at state x) x ≡ true → Held state stack (x ∷ xs) → IsBalanced stack (x ∷ xs)
+unfolding Held state_at node_stays
 part_held Plain stack x xs k h = h
-part_held Behind stack x xs k h = h
+part_held AfterWord stack x xs k h = h
 part_held (Within n) stack x xs k h = absurd cc
 
 pub part_paired : (old new : List TokenNode) → IsStopped old new → IsPaired old → IsNumbered old → IsPaired new
@@ -240,7 +241,48 @@ unfolding Held
 part_paired old new s h d =
     let rest = s.next ∷ s.rest in
     let g = sweeps Plain [] s.front rest (subst (IsBalanced []) s.whole (is_balanced h)) (subst IsNumbered s.whole d) in
-    balanced_paired (subst (IsBalanced []) (sym s.made) (put_all_balanced [] (kept Plain s.front) [] rest (g.back rest (part_held (state_behind Plain s.front) g.next s.next s.rest s.stays g.held))))
+    balanced_paired (subst (IsBalanced []) (sym s.made) (put_all_balanced [] (staying_nodes Plain s.front) [] rest (g.back rest (part_held (state_after_all Plain s.front) g.next s.next s.rest s.stays g.held))))
+
+-- ---- each round bracket has one that closes it, and no attribute is cut off
+
+abbrev pub HasCloser : TokenNode → Type 0
+HasCloser x = is_punctuator (codes "(") x.token ≡ true → (n : ℕ) × (x.partner ≡ Some n) × ((x.number == n) ≡ false)
+
+closers : (stack xs : List TokenNode) → IsBalanced stack xs → IsNumbered xs → AllByRecursion HasCloser xs
+closers stack [] h d = tt
+closers stack (x ∷ xs) h d =
+    let o = onward h in (
+      λ b. let k = open_first h (round_opens x.token b) in let r = later k [] x stack refl in (r.0, r.1, later_number r.0 [] x x stack k r.1 d),
+      closers o.next xs o.balanced (numbered_tail x xs d),
+    )
+
+pub have_closers : (nodes : List TokenNode) → IsPaired nodes → IsNumbered nodes → AllByRecursion HasCloser nodes
+have_closers nodes h d = closers [] nodes (is_balanced h) d
+
+-- nothing that goes with a word is open
+abbrev pub IsOutside : State → Type 0
+IsOutside Plain = Unit {0}
+IsOutside AfterWord = Unit {0}
+IsOutside (Within n) = ⊥
+
+outside_held : (state : State) (stack : List TokenNode) → Held state stack [] → IsOutside state
+unfolding Held
+outside_held Plain stack h = tt
+outside_held AfterWord stack h = tt
+outside_held (Within n) stack h = let r = later h.balanced h.above h.bracket stack refl in absurd (let a = r.2 in cc)
+
+pub whole_outside : (nodes : List TokenNode) → IsPaired nodes → IsNumbered nodes → IsOutside (state_after_all Plain nodes)
+unfolding Held
+whole_outside nodes h d =
+    let all = sym (append-nil nodes) in
+    let g = sweeps Plain [] nodes [] (subst (IsBalanced []) all (is_balanced h)) (subst IsNumbered all d) in
+    outside_held (state_after_all Plain nodes) g.next g.held
+
+pub stays_outside : (state : State) (x : TokenNode) → node_stays (state_at state x) x ≡ true → IsOutside state
+unfolding state_at node_stays
+stays_outside Plain x h = tt
+stays_outside AfterWord x h = tt
+stays_outside (Within n) x h = absurd cc
 
 -- ---- no node is new
 
@@ -267,34 +309,34 @@ less_cons x y a b e h = record {
   shorter = (let p = h.shorter in omega arith);
 }
 
-kept_less : (state : State) (xs rest : List TokenNode) → IsLess (kept state xs ++ rest) (xs ++ rest)
-unfolding kept
+kept_less : (state : State) (xs rest : List TokenNode) → IsLess (staying_nodes state xs ++ rest) (xs ++ rest)
+unfolding staying_nodes
 kept_less state [] rest = less_same rest
 kept_less state (x ∷ xs) rest =
-    let next = after (entered state x) x in
+    let next = state_after (state_at state x) x in
     let h = kept_less next xs rest in
-    elim (keeps (entered state x) x) as (λ b. IsLess (cond b (x ∷ kept next xs) (kept next xs) ++ rest) (x ∷ (xs ++ rest)))
-    [ true ↦ less_cons x x (kept next xs ++ rest) (xs ++ rest) refl h | false ↦ less_drop x (kept next xs ++ rest) (xs ++ rest) h ]
+    elim (node_stays (state_at state x) x) as (λ b. IsLess (cond b (x ∷ staying_nodes next xs) (staying_nodes next xs) ++ rest) (x ∷ (xs ++ rest)))
+    [ true ↦ less_cons x x (staying_nodes next xs ++ rest) (xs ++ rest) refl h | false ↦ less_drop x (staying_nodes next xs ++ rest) (xs ++ rest) h ]
 
-put_less : (d : List TokenNode) (y : TokenNode) (rest : List TokenNode) → IsLess (put_one d y ++ rest) (d ++ y ∷ rest)
-unfolding put_one joined_node
+put_less : (d : List TokenNode) (y : TokenNode) (rest : List TokenNode) → IsLess (joined_to_end d y ++ rest) (d ++ y ∷ rest)
+unfolding joined_to_end joined_node
 put_less [] y rest = less_same (y ∷ rest)
 put_less (x ∷ []) y rest =
     elim (are_strings x y) as (λ b. IsLess (cond b (joined_node x y ∷ []) (x ∷ y ∷ []) ++ rest) (x ∷ y ∷ rest))
     [ true ↦ less_cons (joined_node x y) x rest (y ∷ rest) refl (less_drop y rest rest (less_same rest)) | false ↦ less_same (x ∷ y ∷ rest) ]
-put_less (x ∷ z ∷ d) y rest = less_cons x x (put_one (z ∷ d) y ++ rest) (z ∷ d ++ y ∷ rest) refl (put_less (z ∷ d) y rest)
+put_less (x ∷ z ∷ d) y rest = less_cons x x (joined_to_end (z ∷ d) y ++ rest) (z ∷ d ++ y ∷ rest) refl (put_less (z ∷ d) y rest)
 
-put_all_less : (d xs rest : List TokenNode) → IsLess (put_all d xs ++ rest) (d ++ (xs ++ rest))
-unfolding put_all
+put_all_less : (d xs rest : List TokenNode) → IsLess (all_joined_to_end d xs ++ rest) (d ++ (xs ++ rest))
+unfolding all_joined_to_end
 put_all_less d [] rest = less_same (d ++ rest)
 put_all_less d (x ∷ xs) rest =
-    less_on (put_all (put_one d x) xs ++ rest) (put_one d x ++ (xs ++ rest)) (d ++ x ∷ (xs ++ rest)) (put_all_less (put_one d x) xs rest) (put_less d x (xs ++ rest))
+    less_on (all_joined_to_end (joined_to_end d x) xs ++ rest) (joined_to_end d x ++ (xs ++ rest)) (d ++ x ∷ (xs ++ rest)) (put_all_less (joined_to_end d x) xs rest) (put_less d x (xs ++ rest))
 
-swept_less : (front rest : List TokenNode) → IsLess (put_all [] (kept Plain front) ++ rest) (front ++ rest)
+swept_less : (front rest : List TokenNode) → IsLess (all_joined_to_end [] (staying_nodes Plain front) ++ rest) (front ++ rest)
 swept_less front rest =
-    less_on (put_all [] (kept Plain front) ++ rest) (kept Plain front ++ rest) (front ++ rest) (put_all_less [] (kept Plain front) rest) (kept_less Plain front rest)
+    less_on (all_joined_to_end [] (staying_nodes Plain front) ++ rest) (staying_nodes Plain front ++ rest) (front ++ rest) (put_all_less [] (staying_nodes Plain front) rest) (kept_less Plain front rest)
 
-kept_fewer : (old new : List TokenNode) (next room : ℕ) (stack : List ℕ) → IsKept old next room stack → IsPaired new → IsLess new old → IsKept new next room stack
+kept_fewer : (old new : List TokenNode) (next room : ℕ) (stack : List ℕ) → IsValidList old next room stack → IsPaired new → IsLess new old → IsValidList new next room stack
 kept_fewer old new next room stack k p h = record {
   is_list = paired_list new p (h.numbered k.is_list.distinct);
   below = λ n l. k.below n (h.live n l);
@@ -302,13 +344,13 @@ kept_fewer old new next room stack k p h = record {
   none_open = k.none_open;
 }
 
-pub whole_kept : (old : List TokenNode) (next room : ℕ) (stack : List ℕ) → IsKept old next room stack → IsPaired old → IsKept (put_all [] (kept Plain old)) next room stack
+pub whole_kept : (old : List TokenNode) (next room : ℕ) (stack : List ℕ) → IsValidList old next room stack → IsPaired old → IsValidList (all_joined_to_end [] (staying_nodes Plain old)) next room stack
 whole_kept old next room stack k p =
     let e = swept_less old [] in
-    kept_fewer old (put_all [] (kept Plain old)) next room stack k (whole_paired old p k.is_list.distinct)
-    (subst (IsLess (put_all [] (kept Plain old))) (append-nil old) (subst (λ t. IsLess t (old ++ [])) (append-nil (put_all [] (kept Plain old))) e))
+    kept_fewer old (all_joined_to_end [] (staying_nodes Plain old)) next room stack k (whole_paired old p k.is_list.distinct)
+    (subst (IsLess (all_joined_to_end [] (staying_nodes Plain old))) (append-nil old) (subst (λ t. IsLess t (old ++ [])) (append-nil (all_joined_to_end [] (staying_nodes Plain old))) e))
 
-pub part_kept : (old new : List TokenNode) (next room : ℕ) (stack : List ℕ) → IsStopped old new → IsKept old next room stack → IsPaired old → IsKept new next room stack
+pub part_kept : (old new : List TokenNode) (next room : ℕ) (stack : List ℕ) → IsStopped old new → IsValidList old next room stack → IsPaired old → IsValidList new next room stack
 part_kept old new next room stack s k p =
     let rest = s.next ∷ s.rest in
     kept_fewer old new next room stack k (part_paired old new s p k.is_list.distinct)
@@ -325,11 +367,11 @@ behind_front : (front rest stack : List TokenNode) → IsBalanced stack (front +
 behind_front [] rest stack h = record { stack = stack; balanced = h }
 behind_front (x ∷ front) rest stack h = let o = onward h in behind_front front rest o.next o.balanced
 
-pub closes_behind : (nodes : List TokenNode) (n m : ℕ) → IsPaired nodes → IfSome (node_of n nodes) (λ x. IsTrue (opens x.token)) → partner_of n nodes ≡ Some m → is_live m (from_on n nodes) ≡ true
-closes_behind nodes n m h o p =
+pub closes_after : (nodes : List TokenNode) (n m : ℕ) → IsPaired nodes → IfSome (node_of n nodes) (λ x. IsTrue (opens x.token)) → partner_of n nodes ≡ Some m → is_live m (nodes_from n nodes) ≡ true
+closes_after nodes n m h o p =
     let f = found n nodes (partner_live n m nodes p) in
-    let b = behind_front (before n nodes) (f.node ∷ behind n nodes) [] (subst (IsBalanced []) f.whole (is_balanced h)) in
+    let b = behind_front (nodes_before n nodes) (f.node ∷ nodes_after n nodes) [] (subst (IsBalanced []) f.whole (is_balanced h)) in
     let is : opens f.node.token ≡ true = subst (λ t. IfSome t (λ x. IsTrue (opens x.token))) f.is_node o in
     let r = later (open_first b.balanced is) [] f.node b.stack refl in
     let partner : f.node.partner ≡ Some m = sym (ap partner_in f.is_node) ∙ p in
-    subst (λ t. is_live m t ≡ true) (sym f.from_there) (or_right _ _ (subst (λ k. is_live k (behind n nodes) ≡ true) (same_partner r.1 partner) r.2))
+    subst (λ t. is_live m t ≡ true) (sym f.from_there) (or_right _ _ (subst (λ k. is_live k (nodes_after n nodes) ≡ true) (same_partner r.1 partner) r.2))

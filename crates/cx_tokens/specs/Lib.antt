@@ -1,6 +1,6 @@
 pub mod Brackets
-pub mod Edits
+pub mod Digraphs
 pub mod Nodes
-pub mod Pairing
+pub mod Shapes
 pub mod Simplified
-pub mod Sweeping
+pub mod Sublists

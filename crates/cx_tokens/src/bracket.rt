@@ -2,7 +2,7 @@
 ghost use Rattle.std.specs.Prelude.{◌≡◌, ◌+◌, ◌<◌, ◌≤◌, [], MatchOption, if◌then◌else◌, length, map, slice_index_or, slice_set, take, vec_capacity, vec_len};
 ghost use Rattle.cx_tokens.specs.Brackets.{IsNested, IsPaired, IsUnpaired, closes, fits, is_punctuator, opens};
 ghost use Rattle.cx_tokens.specs.Nodes.{TokenNode, tokens};
-ghost use Rattle.cx_tokens.specs.Pairing.{IsHalfPaired, IsRead, named, with_partner};
+ghost use Rattle.cx_tokens.specs.Shapes.Pairing.{IsHalfPaired, IsRead, number_and_token, with_partner};
 
 use crate::entry::Entry;
 use crate::token::{Kind, Token};
@@ -56,24 +56,24 @@ pub fn fits(opening_token: &Token, closing_token: &Token) -> bool
     false
 }
 
-// Where the brackets of entries are not nested, if somewhere. The stack has room for all entries; it
-// is empty before and after.
-pub fn fault(entries: &[Entry], stack: &mut Vec<usize>) -> Option<Place>
+// Where the brackets of entries are not nested, if somewhere. The stack has room for all entries;
+// it is empty before and after.
+pub fn unpaired_place(entries: &[Entry], stack: &mut Vec<usize>) -> Option<Place>
     requires empty { stack.old.items ≡ [] }
     requires room { length entries.now ≤ vec_capacity stack.old }
-    ensures place { MatchOption result (IsNested (tokens entries.now)) (λ at. IsUnpaired (tokens entries.now) at) }
+    ensures place { MatchOption result (IsNested (tokens entries.now)) (IsUnpaired (tokens entries.now)) }
     ensures emptied { stack.new.items ≡ [] }
     ensures room { vec_capacity stack.new ≡ vec_capacity stack.old }
 {
-    let place = first_fault(entries, stack);
+    let place = first_unpaired(entries, stack);
     stack.clear();
     place
 }
 
-fn first_fault(entries: &[Entry], stack: &mut Vec<usize>) -> Option<Place>
+fn first_unpaired(entries: &[Entry], stack: &mut Vec<usize>) -> Option<Place>
     requires empty { stack.old.items ≡ [] }
     requires room { length entries.now ≤ vec_capacity stack.old }
-    ensures place { MatchOption result (IsNested (tokens entries.now)) (λ at. IsUnpaired (tokens entries.now) at) }
+    ensures place { MatchOption result (IsNested (tokens entries.now)) (IsUnpaired (tokens entries.now)) }
     ensures room { vec_capacity stack.new ≡ vec_capacity stack.old }
 {
     for index in 0..entries.len() {
@@ -91,7 +91,8 @@ fn read(entries: &[Entry], stack: &mut Vec<usize>, index: usize) -> Option<Place
     requires few { vec_len stack.old ≤ index }
     requires room { length entries.now ≤ vec_capacity stack.old }
     requires so_far { IsRead (take index entries.now) stack.old.items }
-    ensures so_far { MatchOption result (IsRead (take (index + 1) entries.now) stack.new.items) (λ at. IsUnpaired (tokens entries.now) at) }
+    ensures so_far { MatchOption result (IsRead (take (index + 1) entries.now) stack.new.items)
+        (IsUnpaired (tokens entries.now)) }
     ensures few { vec_len stack.new ≤ index + 1 }
     ensures room { vec_capacity stack.new ≡ vec_capacity stack.old }
 {
@@ -111,7 +112,9 @@ fn read(entries: &[Entry], stack: &mut Vec<usize>, index: usize) -> Option<Place
 
 // The place of a closing bracket that does not fit an opening one.
 fn unfit_place(opening_token: &Token, closing_token: &Token) -> Option<Place>
-    ensures { result ≡ (if fits opening_token.now closing_token.now then None else Some closing_token.now.place) }
+    ensures { result
+        ≡ (if fits opening_token.now closing_token.now then None
+        else Some closing_token.now.place) }
 {
     if fits(opening_token, closing_token) {
         None
@@ -127,7 +130,8 @@ pub fn pair(entries: &mut Vec<Entry>, stack: &mut Vec<usize>)
     requires empty { stack.old.items ≡ [] }
     requires room { length entries.old.items ≤ vec_capacity stack.old }
     ensures paired { IsPaired entries.new.items }
-    ensures named { map named entries.new.items ≡ map named entries.old.items }
+    ensures number_and_token { map number_and_token entries.new.items
+        ≡ map number_and_token entries.old.items }
     ensures emptied { stack.new.items ≡ [] }
     ensures room { vec_capacity stack.new ≡ vec_capacity stack.old }
 {
@@ -143,7 +147,8 @@ fn pair_one(entries: &mut Vec<Entry>, stack: &mut Vec<usize>, index: usize)
     requires room { length entries.old.items ≤ vec_capacity stack.old }
     requires so_far { IsHalfPaired entries.old.items index stack.old.items }
     ensures so_far { IsHalfPaired entries.new.items (index + 1) stack.new.items }
-    ensures named { map named entries.new.items ≡ map named entries.old.items }
+    ensures number_and_token { map number_and_token entries.new.items
+        ≡ map number_and_token entries.old.items }
     ensures few { vec_len stack.new ≤ index + 1 }
     ensures room { vec_capacity stack.new ≡ vec_capacity stack.old }
 {
@@ -165,7 +170,11 @@ fn pair_one(entries: &mut Vec<Entry>, stack: &mut Vec<usize>, index: usize)
 fn link(entries: &mut Vec<Entry>, start: usize, end: usize)
     requires ordered { start < end }
     requires within { end < length entries.old.items }
-    ensures { (a b : TokenNode) → a ≡ slice_index_or entries.old.items start a → b ≡ slice_index_or entries.old.items end b → entries.new.items ≡ slice_set (slice_set entries.old.items start (with_partner a (Some b.number))) end (with_partner b (Some a.number)) }
+    ensures { (a b : TokenNode) → a ≡ slice_index_or entries.old.items start a
+        → b ≡ slice_index_or entries.old.items end b
+        → entries.new.items
+        ≡ slice_set (slice_set entries.old.items start (with_partner a (Some b.number))) end
+        (with_partner b (Some a.number)) }
 {
     let opening = entries[start].number();
     let closing = entries[end].number();
@@ -173,10 +182,11 @@ fn link(entries: &mut Vec<Entry>, start: usize, end: usize)
     set_partner(entries, end, Some(opening));
 }
 
-#[tactic(auto, unfolding(crate::specs::Pairing::with_partner))]
+#[tactic(auto, unfolding(crate::specs::Shapes::Pairing::with_partner))]
 fn set_partner(entries: &mut Vec<Entry>, index: usize, partner: Option<u32>)
     requires { index < length entries.old.items }
-    ensures { (a : TokenNode) → a ≡ slice_index_or entries.old.items index a → entries.new.items ≡ slice_set entries.old.items index (with_partner a partner) }
+    ensures { (a : TokenNode) → a ≡ slice_index_or entries.old.items index a
+        → entries.new.items ≡ slice_set entries.old.items index (with_partner a partner) }
 {
     let entry = &mut entries[index];
     entry.set_partner(partner);

@@ -1,8 +1,8 @@
 //! Entries of token lists, and where they stand.
 ghost use Rattle.std.specs.Prelude.{◌≡◌, ◌+◌, ◌<◌, ◌≤◌, ◌++◌, IfOk, IfSome, IsTrue, OnOk, OnErr, length, map, take, drop, vec_capacity, vec_len};
-ghost use Rattle.cx_tokens.specs.Edits.{numbered, parted, parted_one, place_behind, put};
-ghost use Rattle.cx_tokens.specs.Sweeping.{with_text};
-ghost use Rattle.cx_tokens.specs.Nodes.{before, first_of, is_live, last_of, node_of, tokens};
+ghost use Rattle.cx_tokens.specs.Shapes.Edits.{numbered, without_partners, without_partner, place_after, replaced_run};
+ghost use Rattle.cx_tokens.specs.Shapes.Sweeping.{with_text};
+ghost use Rattle.cx_tokens.specs.Nodes.{nodes_before, first_of, is_live, last_of, node_of, tokens};
 
 use crate::node::Node;
 use crate::token::Token;
@@ -61,25 +61,27 @@ impl Entry {
         self.partner
     }
 
-    // Gives the token another text, and the parts of it.
-    #[tactic(auto, unfolding(crate::specs::Sweeping::with_text))]
+    // Makes the token a joined string of this text and these parts.
+    #[tactic(auto, unfolding(crate::specs::Shapes::Sweeping::with_text))]
     pub fn set_text(&mut self, text: Text, parts: List<usize>)
         ensures { self.new ≡ with_text self.old text parts }
     {
         self.token.text = text;
         self.token.parts = parts;
+        self.token.digraph = false;
     }
 
     pub fn set_partner(&mut self, partner: Option<u32>)
-        ensures { self.new ≡ record { number = self.old.number; token = self.old.token; partner = partner } }
+        ensures { self.new
+            ≡ record { number = self.old.number; token = self.old.token; partner = partner } }
     {
         self.partner = partner;
     }
 
     // Takes the partner away, where it is one of these.
-    #[tactic(auto, unfolding(crate::specs::Edits::parted_one, crate::specs::Edits::without))]
-    pub fn part(&mut self, gone: &[u32])
-        ensures { self.new ≡ parted_one gone.now self.old }
+    #[tactic(auto, unfolding(crate::specs::Shapes::Edits::without_partner, crate::specs::Shapes::Edits::partner_unless))]
+    pub fn clear_partner(&mut self, gone: &[u32])
+        ensures { self.new ≡ without_partner gone.now self.old }
     {
         if let Some(partner) = self.partner {
             if gone.contains(&partner) {
@@ -102,7 +104,7 @@ impl Entry {
 
 // The index of a node, or the length where the list has no such node.
 pub fn place_of(entries: &[Entry], node: Node) -> usize
-    ensures place { result ≡ length (before node entries.now) }
+    ensures place { result ≡ length (nodes_before node entries.now) }
     ensures within { IsTrue (is_live node entries.now) → result < length entries.now }
 {
     for (index, entry) in entries.iter().enumerate() {
@@ -113,11 +115,11 @@ pub fn place_of(entries: &[Entry], node: Node) -> usize
     entries.len()
 }
 
-// The index behind a node, or 0 for the start.
-#[tactic(auto, unfolding(crate::specs::Edits::place_behind))]
-pub fn place_behind(entries: &[Entry], node: Option<Node>) -> usize
+// The index after a node, or 0 for the start.
+#[tactic(auto, unfolding(crate::specs::Shapes::Edits::place_after))]
+pub fn place_after(entries: &[Entry], node: Option<Node>) -> usize
     requires { IfSome node (λ n. IsTrue (is_live n entries.now)) }
-    ensures place { result ≡ place_behind node entries.now }
+    ensures place { result ≡ place_after node entries.now }
     ensures within { result ≤ length entries.now }
 {
     match node {
@@ -154,13 +156,13 @@ pub fn node_before(entries: &[Entry], place: usize) -> Option<Node>
 }
 
 // Takes the partners of all entries away that are among these.
-#[tactic(auto, unfolding(crate::specs::Edits::parted))]
-pub fn part(entries: &mut Vec<Entry>, gone: &[u32])
-    ensures items { entries.new.items ≡ parted gone.now entries.old.items }
+#[tactic(auto, unfolding(crate::specs::Shapes::Edits::without_partners))]
+pub fn clear_partners(entries: &mut Vec<Entry>, gone: &[u32])
+    ensures items { entries.new.items ≡ without_partners gone.now entries.old.items }
     ensures len { vec_len entries.new ≡ vec_len entries.old }
 {
     for entry in entries.iter_mut() {
-        entry.part(gone);
+        entry.clear_partner(gone);
     }
 }
 
@@ -176,7 +178,7 @@ fn numbers_of(alloc: Global, entries: &[Entry]) -> Result<Vec<u32>, NoMemory>
 }
 
 // Puts entries in the place of those from `start` up to `end`; a refused call changes nothing.
-fn replace(
+fn replace_range(
     entries: &mut Vec<Entry>,
     start: usize,
     end: usize,
@@ -184,7 +186,9 @@ fn replace(
 ) -> Result<(), NoMemory>
     requires ordered { start ≤ end }
     requires within { end ≤ length entries.old.items }
-    ensures ok { OnOk result (entries.new.items ≡ take start entries.old.items ++ (news.items ++ drop end entries.old.items)) }
+    ensures ok { OnOk result
+        (entries.new.items ≡ take start entries.old.items
+        ++ (news.items ++ drop end entries.old.items)) }
     ensures err { OnErr result (entries.new.items ≡ entries.old.items) }
 {
     let mut news = news;
@@ -197,25 +201,31 @@ fn replace(
     Ok(())
 }
 
-// Puts entries in the place of the nodes from one to another, whose partners have none from then on;
-// a refused call changes nothing.
-#[tactic(auto, unfolding(crate::specs::Edits::put))]
-pub fn put(entries: &mut Vec<Entry>, from: Node, to: Node, news: Vec<Entry>) -> Result<(), NoMemory>
+// Puts entries in the place of the nodes from one to another, whose partners have none from then
+// on; a refused call changes nothing.
+#[tactic(auto, unfolding(crate::specs::Shapes::Edits::replaced_run))]
+pub fn replace_run(
+    entries: &mut Vec<Entry>,
+    from: Node,
+    to: Node,
+    news: Vec<Entry>,
+) -> Result<(), NoMemory>
     requires live { IsTrue (is_live to entries.old.items) }
-    requires ordered { length (before from entries.old.items) ≤ place_behind (Some to) entries.old.items }
-    ensures ok { OnOk result (entries.new.items ≡ put from to news.items entries.old.items) }
+    requires ordered { length (nodes_before from entries.old.items) ≤ place_after (Some to) entries.old.items }
+    ensures ok { OnOk result (entries.new.items
+        ≡ replaced_run from to news.items entries.old.items) }
     ensures err { OnErr result (entries.new.items ≡ entries.old.items) }
 {
     let start = place_of(entries.as_slice(), from);
-    let end = place_behind(entries.as_slice(), Some(to));
+    let end = place_after(entries.as_slice(), Some(to));
     let gone = numbers_of(*entries.allocator(), &entries.as_slice()[start..end])?;
-    replace(entries, start, end, news)?;
-    part(entries, gone.as_slice());
+    replace_range(entries, start, end, news)?;
+    clear_partners(entries, gone.as_slice());
     Ok(())
 }
 
 // Copies the tokens of entries, with numbers from `number` on and without partners.
-#[tactic(auto, unfolding(crate::specs::Edits::numbered))]
+#[tactic(auto, unfolding(crate::specs::Shapes::Edits::numbered))]
 pub fn renumbered(
     alloc: Global,
     number: u32,

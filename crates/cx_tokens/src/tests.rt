@@ -1,9 +1,9 @@
 //! Tests of lists of tokens.
 ghost use Rattle.std.specs.Prelude.{IfSome, IsTrue};
-ghost use Rattle.cx_tokens.specs.Nodes.{from_on, is_live};
+ghost use Rattle.cx_tokens.specs.Nodes.{nodes_from, is_live};
 
 use crate::laws::from_itself;
-use crate::{Kind, Node, Token, TokenList};
+use crate::{Kind, Node, Token, TokenList, is_digraph, plain_text};
 use cx_base::{Duplicate, List, NoMemory, Place, Text};
 use std::alloc::{AllocError, Global};
 use std::str;
@@ -33,6 +33,7 @@ fn token_of(alloc: Global, word: &[u8], column: u32) -> Result<Token, NoMemory> 
         hide: List::new(alloc),
         space: false,
         parts: List::new(alloc),
+        digraph: false,
     })
 }
 
@@ -62,11 +63,11 @@ fn node_at(list: &TokenList, index: usize) -> Option<Node>
     Some(node)
 }
 
-// A node, and the one so many nodes behind it.
+// A node, and the one so many nodes after it.
 fn run_at(list: &TokenList, index: usize, more: usize) -> Option<(Node, Node)>
     ensures from_live { IfSome result (λ r. IsTrue (is_live r.0 list.now)) }
     ensures to_live { IfSome result (λ r. IsTrue (is_live r.1 list.now)) }
-    ensures order { IfSome result (λ r. IsTrue (is_live r.1 (from_on r.0 list.now))) }
+    ensures order { IfSome result (λ r. IsTrue (is_live r.1 (nodes_from r.0 list.now))) }
 {
     let from = node_at(list, index)?;
     from_itself();
@@ -164,7 +165,7 @@ fn runs_are_replaced(rt: HostRuntime) {
 
 #[test]
 fn brackets_are_paired(rt: HostRuntime) {
-    for (text, fault, expected) in [
+    for (text, unpaired, expected) in [
         ("", 0, ""),
         ("a", 0, "a "),
         ("f ( [ ] { } )", 0, "f (7 [4 ]3 {6 }5 )2 "),
@@ -178,9 +179,9 @@ fn brackets_are_paired(rt: HostRuntime) {
         let mut list = list_of(rt.alloc(), text).expect(&rt, "memory");
         let column = match list.pair_brackets() {
             Ok(()) => 0,
-            Err(unpaired) => unpaired.at.column,
+            Err(refused) => refused.at.column,
         };
-        assert_eq!(rt; column, fault, "at {text}");
+        assert_eq!(rt; column, unpaired, "at {text}");
         let shown = shown(rt.alloc(), &list).expect(&rt, "memory");
         assert_eq!(rt; shown.as_str(), expected, "at {text}");
     }
@@ -200,6 +201,8 @@ fn lists_are_simplified(rt: HostRuntime) {
         ("__attribute__ inline ( x )", "(5 x )3 "),
         ("__declspec ( y ) x __attribute__", "x "),
         ("__attribute__ __attribute__ ( y ) x", "x "),
+        ("_Pragma ( y ) int g", "int g "),
+        ("_Pragma x", "x "),
         ("", ""),
     ] {
         let mut list = list_of(rt.alloc(), text).expect(&rt, "memory");
@@ -230,4 +233,22 @@ fn lists_are_copied(rt: HostRuntime) {
     assert!(rt; copy.previous(last) == node_at(&copy, 2));
     let shown = shown(rt.alloc(), &copy).expect(&rt, "memory");
     assert_eq!(rt; shown.as_str(), "a (4 b )2 ");
+}
+
+#[test]
+fn digraphs_keep_their_spelling(rt: HostRuntime) {
+    for (kind, spelled, plain, digraph) in [
+        (Kind::Punct, b"<:".as_slice(), b"[".as_slice(), true),
+        (Kind::Punct, b"%:%:".as_slice(), b"##".as_slice(), true),
+        (Kind::Punct, b"%".as_slice(), b"%".as_slice(), false),
+        (Kind::Other, b"<:".as_slice(), b"<:".as_slice(), false),
+    ] {
+        assert_eq!(rt; plain_text(kind, spelled), plain);
+        assert!(rt; is_digraph(kind, spelled) == digraph);
+        let mut token = token_of(rt.alloc(), plain, 1).expect(&rt, "memory");
+        token.kind = kind;
+        token.digraph = digraph;
+        let token = token.copy().expect(&rt, "memory");
+        assert_eq!(rt; token.spelling(), spelled);
+    }
 }

@@ -36,9 +36,11 @@ pub struct Token {
     pub hide: List<Text>,
     /// Whether a separator, a comment or a newline stands directly before it.
     pub space: bool,
-    /// Of a string that was joined from several: how many bytes each of them has between its quotes,
-    /// in order, since an escape ends in its own string. Empty for every other token.
+    /// Of a string that was joined from several: how many bytes each of them has between its
+    /// quotes, in order, since an escape ends in its own string. Empty for every other token.
     pub parts: List<usize>,
+    /// Whether it was spelt as a digraph; `text` is then the plain form (C11 6.4.6).
+    pub digraph: bool,
 }
 
 impl Token {
@@ -55,6 +57,7 @@ impl Token {
             hide,
             space: self.space,
             parts,
+            digraph: self.digraph,
         })
     }
 }

@@ -1,12 +1,13 @@
 //! Lists of tokens, with edits.
-ghost use Rattle.std.specs.Prelude.{◌≡◌, ℕ, List as list, [], IfErr, IfOk, IfSome, IsOk, IsTrue, OnOk, OnErr, map};
+ghost use Rattle.std.specs.Prelude.{◌≡◌, ℕ, [], IfErr, IfOk, IfSome, IsOk, IsTrue, OnOk, OnErr};
 ghost use Rattle.cx_tokens.specs.Brackets.{IsNested, IsPaired, IsUnpaired};
-ghost use Rattle.cx_tokens.specs.Simplified.{IsPartlySimplified, simplified};
-ghost use Rattle.cx_tokens.specs.Nodes.{AreNew, IsTokenList, before, behind, erased, first_of, from_on, inserted, is_live, last_of, new_node, new_nodes, node_of, partner_of, spliced, tokens};
+ghost use Rattle.cx_tokens.specs.Simplified.{IsPartlySimplified, IsSimplified};
+ghost use Rattle.cx_tokens.specs.Nodes.{IsTokenList, SplicesCopies, StandsFrom, erased, first_of, inserted, is_live, last_of, new_node, nodes_after, nodes_before, numbers, partner_of, token_of, tokens};
 
-use crate::bracket::{fault, pair};
+use crate::bracket::{pair, unpaired_place};
 use crate::entry::{
-    Entry, copy_of, entry_of, node_at, node_before, part, place_behind, place_of, put, renumbered,
+    Entry, clear_partners, copy_of, entry_of, node_at, node_before, place_after, place_of,
+    renumbered, replace_run,
 };
 use crate::node::Node;
 use crate::simplify::sweep;
@@ -44,11 +45,12 @@ impl Model for TokenList {
 
     ghost Value = { List TokenNode };
 
-    ghost use Rattle.cx_tokens.specs.Edits.{IsKept};
+    ghost use Rattle.cx_tokens.specs.Shapes.Edits.{IsValidList};
 
     ghost view = { λ l. l.entries.items };
 
-    ghost invariant = { λ l. IsKept l.entries.items l.next (vec_capacity l.stack) l.stack.items };
+    ghost invariant = { λ l.
+        IsValidList l.entries.items l.next (vec_capacity l.stack) l.stack.items };
 }
 
 impl TokenList {
@@ -63,7 +65,7 @@ impl TokenList {
         }
     }
 
-    /// Puts a token in, behind a node or first, and answers its node. A refused call changes nothing
+    /// Puts a token in, after a node or first, and answers its node. A refused call changes nothing
     /// and gives the token up.
     pub fn insert_after(&mut self, at: Option<Node>, token: Token) -> Result<Node, NoMemory>
         requires at_live { IfSome at (λ n. IsTrue (is_live n self.old)) }
@@ -74,7 +76,7 @@ impl TokenList {
     {
         let number = self.next;
         let next = number.checked_add(1).ok_or(NoMemory)?;
-        let place = place_behind(self.entries.as_slice(), at);
+        let place = place_after(self.entries.as_slice(), at);
         let grown = self.entries.len().checked_add(1).ok_or(NoMemory)?;
         self.stack.reserve(grown)?;
         self.entries.insert(place, Entry::new(number, token))?;
@@ -82,16 +84,16 @@ impl TokenList {
         Ok(Node::of(number))
     }
 
-    /// Takes a token out. If it is a bracket of a pair, the other one of the pair has no partner any
-    /// more.
+    /// Takes a token out. If it is a bracket of a pair, the other one of the pair has no partner
+    /// any more.
     pub fn erase(&mut self, at: Node) -> Token
         requires live { IsTrue (is_live at self.old) }
-        ensures token { IfSome (node_of at self.old) (λ x. result ≡ x.token) }
+        ensures token { token_of at self.old ≡ Some result }
         ensures rest { self.new ≡ erased at self.old }
     {
         let place = place_of(self.entries.as_slice(), at);
         let entry = self.entries.remove(place);
-        part(&mut self.entries, &[at.number()]);
+        clear_partners(&mut self.entries, &[at.number()]);
         entry.into_token()
     }
 
@@ -100,15 +102,15 @@ impl TokenList {
     pub fn splice(&mut self, from: Node, to: Node, by: &TokenList) -> Result<(), NoMemory>
         requires from_live { IsTrue (is_live from self.old) }
         requires to_live { IsTrue (is_live to self.old) }
-        requires order { IsTrue (is_live to (from_on from self.old)) }
-        ensures ok { OnOk result ((numbers : list ℕ) × AreNew numbers (tokens by.now) self.old × (self.new ≡ spliced from to (new_nodes numbers (tokens by.now)) self.old)) }
+        requires order { StandsFrom from to self.old }
+        ensures ok { OnOk result (SplicesCopies from to (tokens by.now) self.old self.new) }
         ensures err { OnErr result (self.new ≡ self.old) }
     {
         let alloc = *self.entries.allocator();
         let (news, next) = renumbered(alloc, self.next, by.entries.as_slice())?;
         let grown = self.entries.len().checked_add(news.len()).ok_or(NoMemory)?;
         self.stack.reserve(grown)?;
-        put(&mut self.entries, from, to, news)?;
+        replace_run(&mut self.entries, from, to, news)?;
         self.next = next;
         Ok(())
     }
@@ -122,22 +124,24 @@ impl TokenList {
         node_at(self.entries.as_slice(), 0)
     }
 
-    /// The node behind another.
+    /// The node after another.
     pub fn next(&self, at: Node) -> Option<Node>
         requires live { IsTrue (is_live at self.now) }
-        ensures node { result ≡ first_of (behind at self.now) }
+        ensures node { result ≡ first_of (nodes_after at self.now) }
         ensures live { IfSome result (λ n. IsTrue (is_live n self.now)) }
-        ensures order { (from : ℕ) → IsTrue (is_live at (from_on from self.now)) → IfSome result (λ n. IsTrue (is_live n (from_on from self.now))) }
+        ensures order { (from : ℕ) → StandsFrom from at self.now
+            → IfSome result (λ n. StandsFrom from n self.now) }
     {
         let entries = self.entries.as_slice();
-        node_at(entries, place_behind(entries, Some(at)))
+        node_at(entries, place_after(entries, Some(at)))
     }
 
     /// The node before another.
     pub fn previous(&self, at: Node) -> Option<Node>
         requires live { IsTrue (is_live at self.now) }
-        ensures node { result ≡ last_of (before at self.now) }
+        ensures node { result ≡ last_of (nodes_before at self.now) }
         ensures live { IfSome result (λ n. IsTrue (is_live n self.now)) }
+        ensures order { IfSome result (λ n. StandsFrom n at self.now) }
     {
         let entries = self.entries.as_slice();
         node_before(entries, place_of(entries, at))
@@ -157,7 +161,7 @@ impl TokenList {
     /// The token of a node.
     pub fn token(&self, at: Node) -> &Token
         requires live { IsTrue (is_live at self.now) }
-        ensures { IfSome (node_of at self.now) (λ x. result.now ≡ x.token) }
+        ensures { token_of at self.now ≡ Some result.now }
     {
         entry_of(self.entries.as_slice(), at).token()
     }
@@ -173,13 +177,13 @@ impl TokenList {
     /// nothing changes. Takes no memory.
     pub fn pair_brackets(&mut self) -> Result<(), Unpaired>
         ensures paired { OnOk result (IsPaired self.new) }
-        ensures numbers { OnOk result (map (λ x. x.number) self.new ≡ map (λ x. x.number) self.old) }
+        ensures numbers { OnOk result (numbers self.new ≡ numbers self.old) }
         ensures tokens { OnOk result (tokens self.new ≡ tokens self.old) }
-        ensures fault { IfErr result (λ e. IsUnpaired (tokens self.old) e.at) }
+        ensures unpaired { IfErr result (λ e. IsUnpaired (tokens self.old) e.at) }
         ensures unchanged { OnErr result (self.new ≡ self.old) }
         ensures nested { IsNested (tokens self.old) → IsOk result }
     {
-        if let Some(at) = fault(self.entries.as_slice(), &mut self.stack) {
+        if let Some(at) = unpaired_place(self.entries.as_slice(), &mut self.stack) {
             return Err(Unpaired { at });
         }
         pair(&mut self.entries, &mut self.stack);
@@ -187,12 +191,12 @@ impl TokenList {
     }
 
     /// Takes out the words that say nothing of the values of a program, such as `inline`, and joins
-    /// adjacent strings. Where memory runs out, only some of it is done, and what is left to do leads
-    /// to the same list.
+    /// adjacent strings. Where memory runs out, only some of it is done, and what is left to do
+    /// leads to the same list.
     pub fn simplify(&mut self) -> Result<(), NoMemory>
         requires paired { IsPaired self.old }
         ensures paired { IsPaired self.new }
-        ensures ok { OnOk result (self.new ≡ simplified self.old) }
+        ensures ok { OnOk result (IsSimplified self.old self.new) }
         ensures err { OnErr result (IsPartlySimplified self.old self.new) }
     {
         sweep(&mut self.entries)

@@ -1,6 +1,6 @@
 use Rattle.std.proofs.Common.{◌≡◌, ◌++◌, ◌+◌, drop}
 use Rattle.cx_tokens.specs.Nodes.{tokens}
-use Rattle.cx_tokens.specs.Edits.{numbered}
+use Rattle.cx_tokens.specs.Shapes.Edits.{numbered}
 use Rattle.cx_tokens.proofs.entry.renumbered.Given as goal
 
 abbrev pub invariant-loop-entry : goal.invariant-loop-entry

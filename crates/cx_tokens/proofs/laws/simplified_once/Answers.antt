@@ -1,4 +1,4 @@
-use Rattle.cx_tokens.proofs.SimplifyLaws.{simplified_once}
+use Rattle.cx_tokens.proofs.UnadornedLaws.{simplified_once}
 use Rattle.cx_tokens.proofs.laws.simplified_once.Goals as goal
 
 pub returns : goal.returns

@@ -1,7 +1,7 @@
 use Rattle.std.proofs.Common.{◌≡◌, ◌-◌, ◌++◌, length, take, drop, set, arith, sym, ap, ap₂, ◌∙◌}
 use Rattle.std.specs.List.{remove}
 use Rattle.cx_tokens.specs.Simplified.{parts_of}
-use Rattle.cx_tokens.specs.Sweeping.{joined_node, with_text}
+use Rattle.cx_tokens.specs.Shapes.Sweeping.{joined_node, with_text}
 use Rattle.cx_tokens.proofs.SweepLaws.{joined_is, read_same}
 use Rattle.cx_tokens.proofs.simplify.join.Goals as goal
 

@@ -1,6 +1,6 @@
 use Rattle.std.proofs.Common.{◌<◌, ◌≤◌, arith, length, sym, subst, OnErr}
 use Rattle.std.proofs.lemmas.Result.{err_from_is_err_and}
-use Rattle.cx_tokens.specs.Sweeping.{IsStopped}
+use Rattle.cx_tokens.specs.Shapes.Sweeping.{IsStopped}
 use Rattle.cx_tokens.proofs.SweepLaws.{stopped_there, swept_end, swept_start}
 use Rattle.cx_tokens.proofs.simplify.sweep.Goals as goal
 

@@ -1,5 +1,5 @@
 use Rattle.std.proofs.Common.{length, drop}
-use Rattle.cx_tokens.specs.Sweeping.{IsSwept}
+use Rattle.cx_tokens.specs.Shapes.Sweeping.{IsSwept}
 use Rattle.cx_tokens.proofs.simplify.sweep.Given as goal
 
 abbrev pub invariant-loop-index : goal.invariant-loop-index

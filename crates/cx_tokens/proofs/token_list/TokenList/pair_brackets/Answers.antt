@@ -14,10 +14,10 @@ returns-in-Some-clause-nested c = λ n.
 pub invariant_of-self-2 : goal.invariant_of-self-2
 invariant_of-self-2 c =
     kept_paired c.self.inside.entries.items c.pair.new.entries.items c.self.inside.next (vec_capacity c.self.inside.stack) (vec_capacity c.pair.new.stack) c.self.inside.stack.items c.pair.new.stack.items
-    c.self.invariant c.pair.ensures.paired c.pair.ensures.named (c.pair.ensures.room ∙ c.fault.ensures.room) c.pair.ensures.emptied
+    c.self.invariant c.pair.ensures.paired c.pair.ensures.number_and_token (c.pair.ensures.room ∙ c.unpaired_place.ensures.room) c.pair.ensures.emptied
 
 pub returns-clause-numbers : goal.returns-clause-numbers
-returns-clause-numbers c = (named_parts c.pair.new.entries.items c.self.inside.entries.items c.pair.ensures.named).0 ∙ ap (map (λ x. x.number)) c.self.view_is
+returns-clause-numbers c = (named_parts c.pair.new.entries.items c.self.inside.entries.items c.pair.ensures.number_and_token).0 ∙ ap (map (λ x. x.number)) c.self.view_is
 
 pub returns-clause-tokens : goal.returns-clause-tokens
-returns-clause-tokens c = (named_parts c.pair.new.entries.items c.self.inside.entries.items c.pair.ensures.named).1 ∙ ap tokens c.self.view_is
+returns-clause-tokens c = (named_parts c.pair.new.entries.items c.self.inside.entries.items c.pair.ensures.number_and_token).1 ∙ ap tokens c.self.view_is

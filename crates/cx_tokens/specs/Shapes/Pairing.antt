@@ -1,12 +1,15 @@
--- How brackets are paired, from left to right.
-use Rattle.std.specs.Prelude.{◌≡◌, ℕ, List, [], ◌∷◌, ◌++◌, Bool, true, false, cond, Option, Some, None, length, reverse, take, drop}
+-- How brackets are paired, from left to right. `unpaired_place` is joined to IsUnpaired and
+-- IsNested of Brackets by BracketLaws.unpaired_fault and BracketLaws.nested_no_fault, and
+-- IsHalfPaired to IsPaired by PairLaws.
+use Rattle.std.specs.Prelude.{◌≡◌, ℕ, List, [], ◌∷◌, ◌++◌, Bool, true, false, if◌then◌else◌, Option, Some, None, length, reverse, take, drop}
 use Rattle.cx_base.specs.declared.place.Place.{Place}
 use Rattle.cx_tokens.specs.declared.token.Token.{Token}
 use Rattle.cx_tokens.specs.Nodes.{TokenNode, tokens}
 use Rattle.cx_tokens.specs.Brackets.{IsNested, IsPaired, closes, fits, opens}
 
 -- The innermost open bracket of a list, at index j, and what is in front of it and in it.
-pub record Innermost (Good : List TokenNode → Type 0) (all : List TokenNode) (j : ℕ) (left : List Token) (Before : List TokenNode → List Token → Type 0) : Type 0 where
+pub record Innermost (IsInner : List TokenNode → Type 0) (all : List TokenNode) (j : ℕ)
+    (left : List Token) (Before : List TokenNode → List Token → Type 0) : Type 0 where
   pub bracket : TokenNode
   pub front : List TokenNode
   pub inner : List TokenNode
@@ -15,13 +18,15 @@ pub record Innermost (Good : List TokenNode → Type 0) (all : List TokenNode) (
   pub index : length front ≡ j
   pub is_left : left ≡ bracket.token ∷ lefts
   pub is_opening : opens bracket.token ≡ true
-  pub good : Good inner
+  pub inner_is : IsInner inner
   pub before_it : Before front lefts
 
--- the brackets at these indices are open, the innermost first, and what stands between them is good
+-- the brackets at these indices are open, the innermost first, and IsInner holds of what stands
+-- between them
 abbrev pub AreOpen : (List TokenNode → Type 0) → List TokenNode → List ℕ → List Token → Type 0
-AreOpen Good all [] left = Good all × (left ≡ [])
-AreOpen Good all (j ∷ js) left = Innermost Good all j left (λ front lefts. AreOpen Good front js lefts)
+AreOpen IsInner all [] left = IsInner all × (left ≡ [])
+AreOpen IsInner all (j ∷ js) left =
+    Innermost IsInner all j left (λ front lefts. AreOpen IsInner front js lefts)
 
 abbrev pub AreNested : List TokenNode → Type 0
 AreNested nodes = IsNested (tokens nodes)
@@ -43,23 +48,25 @@ abbrev pub place_first : List Token → Option Place
 place_first [] = None
 place_first (a ∷ left) = Some a.place
 
--- where tokens behind open brackets are not nested
-unfoldable pub fault : List Token → List Token → Option Place
-fault left [] = place_first left
-fault left (t ∷ ts) =
-    cond (opens t) (fault (t ∷ left) ts)
-    (cond (closes t) (cond (fits_first left t) (fault (without_first left) ts) (Some t.place))
-    (fault left ts))
+-- where tokens after open brackets are not nested
+unfoldable pub unpaired_place : List Token → List Token → Option Place
+unpaired_place left [] = place_first left
+unpaired_place left (t ∷ ts) =
+    if opens t then unpaired_place (t ∷ left) ts
+    else if closes t then
+    (if fits_first left t then unpaired_place (without_first left) ts else Some t.place)
+    else unpaired_place left ts
 
--- the nodes before an index are paired but for the brackets left open, and nothing is wrong behind it
+-- the nodes before an index are paired but for the brackets left open, and nothing is unpaired
+-- after it
 pub record IsHalfPaired (nodes : List TokenNode) (index : ℕ) (stack : List ℕ) : Type 0 where
   pub left : List Token
   pub are_open : AreOpen IsPaired (take index nodes) (reverse stack) left
-  pub no_fault : fault left (tokens (drop index nodes)) ≡ None
+  pub all_fit : unpaired_place left (tokens (drop index nodes)) ≡ None
 
 -- the number and the token of a node
-abbrev pub named : TokenNode → ℕ × Token
-named x = (x.number, x.token)
+abbrev pub number_and_token : TokenNode → ℕ × Token
+number_and_token x = (x.number, x.token)
 
 -- a node with another partner
 unfoldable pub with_partner : TokenNode → Option ℕ → TokenNode

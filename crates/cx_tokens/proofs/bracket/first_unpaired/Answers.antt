@@ -2,7 +2,7 @@ use Rattle.std.proofs.Common.{◌≤◌, arith, ap, length, refl, sym, subst, ve
 use Rattle.cx_tokens.specs.Nodes.{tokens}
 use Rattle.cx_tokens.specs.Brackets.{IsUnpaired}
 use Rattle.cx_tokens.proofs.OpenLaws.{index_left, read_start}
-use Rattle.cx_tokens.proofs.bracket.first_fault.Goals as goal
+use Rattle.cx_tokens.proofs.bracket.first_unpaired.Goals as goal
 
 pub loop-index-init : goal.loop-index-init
 loop-index-init c =

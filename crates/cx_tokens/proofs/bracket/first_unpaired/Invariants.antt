@@ -1,6 +1,6 @@
 use Rattle.std.proofs.Common.{◌≡◌, ◌≤◌, take, vec_capacity, vec_len}
-use Rattle.cx_tokens.specs.Pairing.{IsRead}
-use Rattle.cx_tokens.proofs.bracket.first_fault.Given as goal
+use Rattle.cx_tokens.specs.Shapes.Pairing.{IsRead}
+use Rattle.cx_tokens.proofs.bracket.first_unpaired.Given as goal
 
 abbrev pub invariant-loop-index : goal.invariant-loop-index
 invariant-loop-index l = record {

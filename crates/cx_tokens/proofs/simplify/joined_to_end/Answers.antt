@@ -1,7 +1,7 @@
 use Rattle.std.proofs.Common.{◌≡◌, true, false, sym, ap, ◌∙◌}
-use Rattle.cx_tokens.specs.Sweeping.{are_strings, joined_node}
+use Rattle.cx_tokens.specs.Shapes.Sweeping.{are_strings, joined_node}
 use Rattle.cx_tokens.proofs.SweepLaws.{put_apart, put_first, put_joined, read_same, rest_joined}
-use Rattle.cx_tokens.proofs.simplify.put_one.Goals as goal
+use Rattle.cx_tokens.proofs.simplify.joined_to_end.Goals as goal
 
 pub returns-then-index-eq0-clause-made : goal.returns-then-index-eq0-clause-made
 returns-then-index-eq0-clause-made c = λ x r. put_first c.args.entries.now.items c.args.index x c.if-index-eq0.true c.requires r
