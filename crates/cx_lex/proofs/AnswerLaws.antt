@@ -3,7 +3,7 @@ use Rattle.std.proofs.Common.{◌≡◌, ℕ, List, Result, Ok, Err, IfOk, Match
 use Rattle.cx_lex.specs.declared.lexer.Lexed.{Lexed}
 use Rattle.cx_lex.specs.declared.lexer.LexFault.{LexFault}
 use Rattle.cx_lex.specs.declared.lexer.LexFault.TheVariants.{UnclosedComment, TooLong, NoMemory}
-use Rattle.cx_lex.specs.Answers.{HasFault, IsFault}
+use Rattle.cx_lex.specs.Faults.{HasFault, IsFaultOf}
 use Rattle.cx_lex.specs.Lexing.{Lexes, Outcome, lexed, too_long, unclosed_comment}
 use Rattle.cx_lex.proofs.Outcomes.{one_outcome_of}
 
@@ -21,7 +21,7 @@ pub answers_fault : (file limit : ℕ) (text : List ℕ) (answer : Result Lexed 
 answers_fault file limit text answer fault h e = subst (Answers file limit text) e h
 
 pub answers_only : (file limit : ℕ) (text : List ℕ) (answer : Result Lexed LexFault) → Answers file limit text answer → (outcome : Outcome) → Lexes file limit text outcome
-    → MatchResult answer (λ l. outcome ≡ lexed l.pieces l.comments) (λ fault. IsFault fault outcome)
+    → MatchResult answer (λ l. outcome ≡ lexed l.pieces l.comments) (λ fault. IsFaultOf fault outcome)
 answers_only file limit text (Ok l) h outcome o = one_outcome_of file limit text outcome (lexed l.pieces l.comments) o h
 answers_only file limit text (Err (UnclosedComment at)) h outcome o = one_outcome_of file limit text outcome (unclosed_comment at) o h
 answers_only file limit text (Err (TooLong at)) h outcome o = one_outcome_of file limit text outcome (too_long at) o h

@@ -3,7 +3,7 @@ use Rattle.std.proofs.Common.{◌≡◌, ℕ, List, [], ◌∷◌, Some, Bool, t
 use Rattle.std.proofs.lemmas.Bool.{cond-true, cond-false, cases_Bool}
 use Rattle.cx_lex.specs.declared.character.Character.{Character}
 use Rattle.cx_lex.specs.declared.scan.Scan.TheVariants.{InHeader, Closed}
-use Rattle.cx_lex.specs.Scanning.{Scanned, is_barren, is_closed, scanned}
+use Rattle.cx_lex.specs.Shapes.Scanning.{Scanned, is_barren, is_closed, scanned}
 use Rattle.cx_lex.proofs.Scans.{scanned_end, scanned_more, scanned_stop}
 use Rattle.cx_lex.proofs.Steps.{header_step, kept_false, kept_true, scanned_closed}
 

@@ -6,8 +6,8 @@ use Rattle.cx_lex.specs.declared.character.Character.{Character}
 use Rattle.cx_lex.specs.declared.scan.Scan.{Scan}
 use Rattle.cx_lex.specs.declared.scan.Scan.TheVariants.{InBlockComment, Closed}
 use Rattle.cx_lex.specs.Lines.{bytes_of}
-use Rattle.cx_lex.specs.Pieces.{BeginsWith, StandsNowhere}
-use Rattle.cx_lex.specs.Scanning.{step_of}
+use Rattle.cx_lex.specs.Elements.{BeginsWith, StandsNowhere}
+use Rattle.cx_lex.specs.Shapes.Scanning.{step_of}
 use Rattle.cx_lex.proofs.Runs.{Runs, Stops, runs_closed}
 use Rattle.cx_lex.proofs.Steps.{block_step}
 
@@ -48,7 +48,7 @@ plain_no_end b bs h = λ k. plain b bs k.0 h k.1
     plain : (b : ℕ) (bs rest : List ℕ) → (b == 42) ≡ false → b ∷ bs ≡ 42 ∷ 47 ∷ rest → ⊥
     plain b bs rest h e = let f : b ≡ 42 = cc in grind (arith, nat_tests)
 
--- a byte goes on to have the rest behind it, with a `*` in front where it is one
+-- a byte goes on to have the rest after it, with a `*` in front where it is one
 nowhere_more : (b : ℕ) (bs : List ℕ) → StandsNowhere (codes "*/") (starred (b == 42) bs) → StandsNowhere (codes "*/") (b ∷ bs)
 nowhere_more b bs h =
     ⊎_elim
@@ -122,7 +122,7 @@ open_block (x ∷ xs) star h =
       open_block xs (x.code == 42) (nowhere_less x.code (bytes_of xs) (tail_nowhere star x.code (bytes_of xs) h)),
     )
 
--- a comment that ends: what stands before its `/`, and behind which a `*` stands
+-- a comment that ends: what stands before its `/`, and after which a `*` stands
 pub record BlockEnd (star : Bool) (xs : List Character) : Type 0 where
   pub inner : List Character
   pub close : Character
@@ -153,7 +153,7 @@ block_closed (x ∷ xs) star r =
     })
     (cases_Bool (star && (x.code == 47)))
 
--- where a `*` stands behind them, the last of these characters is it
+-- where a `*` stands after them, the last of these characters is it
 pub record LastStar (xs : List Character) : Type 0 where
   pub text : List Character
   pub star : Character

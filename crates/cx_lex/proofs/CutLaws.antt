@@ -8,10 +8,13 @@ use Rattle.cx_lex.specs.declared.spot.Spot.{Spot}
 use Rattle.cx_tokens.specs.declared.token.Kind.{Kind}
 use Rattle.cx_tokens.specs.declared.token.Kind.TheVariants.{Name, Number, Punct}
 use Rattle.cx_lex.specs.declared.piece.Piece.{Piece}
-use Rattle.cx_lex.specs.Characters.{is_blank, is_mark, is_newline, in_alphabet, is_word}
-use Rattle.cx_lex.specs.Cut.{closed, cut, extended, is_pair, joined, joins, kind_of, mark_of, next, one_piece, piece_of}
-use Rattle.cx_lex.specs.Forms.{IsLongest, IsPermitted, IsToken, punctuators}
-use Rattle.cx_lex.specs.Pieces.{FirstPieces, Front, Pieces, StandsNowhere, after, after_byte, behind, start}
+use Rattle.cx_lex.specs.FirstPieces.{is_blank, is_mark, is_newline, in_alphabet}
+use Rattle.cx_lex.specs.Characters.{is_word}
+use Rattle.cx_lex.specs.Shapes.FirstCut.{closed, cut, extended, is_pair, joined, joins, kind_of, mark_of, next, one_piece, piece_of}
+use Rattle.cx_lex.specs.Forms.{IsLongest, IsToken, punctuators}
+use Rattle.cx_lex.specs.FirstPieces.{IsPermitted}
+use Rattle.cx_lex.specs.FirstPieces.{FirstPieces, Front, Pieces, after, after_byte, behind, start}
+use Rattle.cx_lex.specs.Elements.{StandsNowhere}
 use Rattle.cx_lex.proofs.FormLaws.{all_right, begins_word, longest_stops, mark_not_blank, mark_not_word, name_kind, no_empty_punctuator, number_kind, pair_long, punctuator_no_word, word_not_blank}
 use Rattle.cx_lex.proofs.Going.{cut_end, cut_other, cut_word}
 use Rattle.cx_lex.proofs.Joined.{joined_empty, joined_nil, joined_some}
@@ -199,15 +202,15 @@ front Punct spot (b ∷ []) rest t p l h =
 front Punct spot (b ∷ c ∷ cs) rest t p l h = absurd (omega (arith, p))
 front _ spot t' rest t p l h = absurd t
 
-piece_at : Kind → List ℕ → Place → List (List ℕ) → Bool → List ℕ → Bool → Piece
-piece_at kind text place hide space parts first = record { token = record { kind = kind; text = text; place = place; hide = hide; space = space; parts = parts }; first_on_line = first }
+piece_at : Kind → List ℕ → Place → List (List ℕ) → Bool → List ℕ → Bool → Bool → Piece
+piece_at kind text place hide space parts digraph first = record { token = record { kind = kind; text = text; place = place; hide = hide; space = space; parts = parts; digraph = digraph }; first_on_line = first }
 
 piece_is : (spot : Spot) (text : List ℕ) (p : Piece) (gap rest : List ℕ) → Front spot text p gap rest → p ≡ piece_of (over spot gap) p.token.kind p.token.text
 unfolding piece_of piece_at
 piece_is spot text p gap rest f =
-    ap₂ (λ x y. piece_at p.token.kind p.token.text x y p.token.space p.token.parts p.first_on_line) f.place f.hide
-    ∙ ap (λ x. piece_at p.token.kind p.token.text (after spot.place gap) [] p.token.space x p.first_on_line) f.parts
-    ∙ ap₂ (λ x y. piece_at p.token.kind p.token.text (after spot.place gap) [] x [] y) f.space f.first_on_line
+    ap₂ (λ x y. piece_at p.token.kind p.token.text x y p.token.space p.token.parts p.token.digraph p.first_on_line) f.place f.hide
+    ∙ ap₂ (λ x y. piece_at p.token.kind p.token.text (after spot.place gap) [] p.token.space x y p.first_on_line) f.parts f.digraph
+    ∙ ap₂ (λ x y. piece_at p.token.kind p.token.text (after spot.place gap) [] x [] false y) f.space f.first_on_line
 
 behind_over : (spot : Spot) (gap t : List ℕ) → behind (over spot gap) [] t ≡ behind spot gap t
 unfolding behind

@@ -3,8 +3,8 @@ use Rattle.std.proofs.Common.{◌≡◌, ℕ, ◌+◌, ◌-◌, ◌*◌, ◌≤�
 use Rattle.std.specs.List.{list_all}
 use Rattle.std.proofs.lemmas.Bool.{cond-true, cond-false, and_parts, and_from, leb-true, le-leb, eqb-true, eq-eqb, cases_Bool}
 use Rattle.cx_lex.specs.Characters.{is_digit}
-use Rattle.cx_lex.specs.Cut.{digits_from, is_longer, takes_digit, value_of}
-use Rattle.cx_lex.specs.Forms.{IsIntConstant, greatest, number_of}
+use Rattle.cx_lex.specs.Shapes.FirstCut.{digits_from, is_longer, takes_digit, value_of}
+use Rattle.cx_lex.specs.FirstPieces.{IsIntConstant, greatest, number_of}
 
 pub digits_end : (value : ℕ) → digits_from value [] ≡ Some value
 unfolding digits_from

@@ -1,5 +1,5 @@
 -- Whatever element stands in front of a text, the lexer finds it.
-use Rattle.std.proofs.Common.{◌≡◌, ◌≢◌, ℕ, ◌≤◌, List, [], ◌∷◌, ◌++◌, Option, Some, None, Bool, true, false, not, ◌&&◌, ◌||◌, ◌==◌, refl, sym, ap, ap₂, ◌∙◌, subst, subst₂, arith, length, take, append_assoc, append-nil, codes, bytes_eq, is_some, Contains, ◌⊎◌, inl, inr, ⊎_elim}
+use Rattle.std.proofs.Common.{◌≡◌, ◌≢◌, ℕ, ◌≤◌, List, [], ◌∷◌, ◌++◌, Option, Some, None, Bool, true, false, not, ◌&&◌, ◌||◌, ◌==◌, refl, sym, ap, ap₂, ◌∙◌, subst, subst₂, arith, length, take, append_assoc, append-nil, codes, bytes_eq, Contains, ◌⊎◌, inl, inr, ⊎_elim}
 use Rattle.std.specs.List.{list_all, list_any}
 use Rattle.std.proofs.Math.Seq.{take-append_seam}
 use Rattle.std.proofs.lemmas.List.{length-map}
@@ -14,13 +14,15 @@ use Rattle.cx_lex.specs.declared.character.Character.{Character}
 use Rattle.cx_lex.specs.declared.scan.Scan.{Scan}
 use Rattle.cx_lex.specs.declared.scan.Scan.TheVariants.{InName, InNumber, InQuotes, InHeader, InLineComment, InBlockComment, Closed}
 use Rattle.cx_lex.specs.Characters.{is_digit, is_nondigit, is_one_of, is_word}
-use Rattle.cx_lex.specs.Elements.{Element, EndsLine, HasForm, HasHeader, IsElement, IsPiece, IsQuoted, IsUnclosed, comment, is_separator, on_one_line, piece, separator, spelling, within_quotes}
+use Rattle.cx_lex.proofs.MemberLaws.{members_within, within_end, within_more}
+use Rattle.cx_lex.specs.Elements.{AreMembers, Element, EndsLine, HasForm, HasHeader, IsElement, IsPiece, IsQuoted, IsUnclosed, comment, is_separator, on_one_line, piece, separator, characters_of}
+use Rattle.cx_lex.specs.Shapes.Quotes.{within_quotes}
 use Rattle.cx_lex.specs.Forms.{GoesOn, IsLongest, goes_on, punctuators}
-use Rattle.cx_lex.specs.Fronts.{comment_at, comment_scan, element_at, found, header_close, header_or_plain, mark_piece, open_comment, piece_at, piece_scan, plain_piece, scanned_piece, solid_at}
+use Rattle.cx_lex.specs.Shapes.Fronts.{comment_at, comment_scan, element_at, found, header_close, header_or_plain, punctuator_or_byte, open_comment, piece_at, piece_scan, plain_piece, scanned_piece, solid_at}
 use Rattle.cx_lex.specs.Lexing.{place_of}
 use Rattle.cx_lex.specs.Lines.{bytes_of}
-use Rattle.cx_lex.specs.Pieces.{StandsNowhere}
-use Rattle.cx_lex.specs.Scanning.{Mark, Scanned, is_closed, longest, scan_kind, scanned, table}
+use Rattle.cx_lex.specs.Elements.{StandsNowhere}
+use Rattle.cx_lex.specs.Shapes.Scanning.{FoundPunctuator, Scanned, is_closed, longest, scan_kind, scanned, table}
 use Rattle.cx_lex.proofs.Blocks.{block_closes, open_block, star_after, star_behind}
 use Rattle.cx_lex.proofs.ElementSound.{bytes_append, bytes_behind, closed_is, header_form, open_header}
 use Rattle.cx_lex.proofs.FormLaws.{no_empty_punctuator, punctuator_no_word}
@@ -198,32 +200,46 @@ number_complete c xs rest n g l =
 quote_no_blank : (b : ℕ) → is_quote b ≡ true → no_blank b ≡ true
 quote_no_blank b n = grind (arith, nat_tests)
 
+quote_no_backslash : (q : ℕ) → is_quote q ≡ true → (92 == q) ≡ false
+quote_no_backslash q h = grind (arith, nat_tests)
+
+members_read : (q : ℕ) (bs : List ℕ) → is_quote q ≡ true → AreMembers q bs → within_quotes q false bs ≡ Some false
+members_read q bs i h =
+    ap (within_quotes q false) (sym (append-nil bs)) ∙ members_within q bs [] (quote_no_backslash q i) h ∙ within_end q false
+
 quoted_complete : (q : ℕ) (kind : Kind) (c : Character) (xs rest : List Character) → is_quote q ≡ true → scan_kind q Closed ≡ kind → on_one_line xs ≡ true → IsQuoted q (bytes_of (c ∷ xs))
     → plain_piece c (xs ++ rest) ≡ found (piece kind (c ∷ xs)) rest
 quoted_complete q kind c xs rest i k l f =
     let e = head_same c.code q _ _ f.1 in
     let t = ended xs f.0 q (tail_same c.code q (bytes_of xs) (f.0 ++ q ∷ []) f.1) l in
     let r = runs_append (InQuotes q false) (InQuotes q false) Closed t.front (t.last ∷ [])
-    (runs_quotes t.front q false false t.front_line (ap (within_quotes q false) t.bytes ∙ f.2)) (quotes_close q t.last t.last_line t.code) in
+    (runs_quotes t.front q false false t.front_line (ap (within_quotes q false) t.bytes ∙ members_read q f.0 i f.2)) (quotes_close q t.last t.last_line t.code) in
     let all = subst (λ z. Runs (InQuotes q false) z Closed) (sym t.is) r in
     by_scan c xs rest (InQuotes q false) Closed kind (ap (λ b. piece_scan b (xs ++ rest)) e ∙ scan_quote q (xs ++ rest) i)
     (scanned_runs (InQuotes q false) Closed xs rest all (stops_closed rest)) (ap (λ b. scan_kind b Closed) e ∙ k)
 
-some_of : (o : Option Bool) → is_some o ≡ true → (r : Bool) × (o ≡ Some r)
-some_of None e = absurd cc
-some_of (Some r) e = (r, refl)
+-- what may stand after a quote that does not end is read to its end
+unclosed_within : (q : ℕ) (bs : List ℕ) → (92 == q) ≡ false
+    → (AreMembers q bs ⊎ ((members : List ℕ) × (bs ≡ members ++ 92 ∷ []) × AreMembers q members))
+    → (r : Bool) × (within_quotes q false bs ≡ Some r)
+unclosed_within q bs n (inl h) = (false, ap (within_quotes q false) (sym (append-nil bs)) ∙ members_within q bs [] n h ∙ within_end q false)
+unclosed_within q bs n (inr h) = (
+  true,
+  ap (within_quotes q false) h.1 ∙ members_within q h.0 (92 ∷ []) n h.2 ∙ within_more q 92 [] ∙ cond-false _ _ _ n ∙ within_end q true,
+)
 
 unclosed_complete : (c : Character) (xs rest : List Character) → on_one_line xs ≡ true → IsUnclosed (bytes_of (c ∷ xs)) → EndsLine rest
     → plain_piece c (xs ++ rest) ≡ found (piece Unclosed (c ∷ xs)) rest
 unclosed_complete c xs rest l f h =
-    let w = some_of (within_quotes c.code false (bytes_of xs)) f.1 in
-    by_scan c xs rest (InQuotes c.code false) (InQuotes c.code w.0) Unclosed (scan_quote c.code (xs ++ rest) (sym (quote_one_of c.code) ∙ f.0))
+    let q = sym (quote_one_of c.code) ∙ f.0 in
+    let w = unclosed_within c.code (bytes_of xs) (quote_no_backslash c.code q) f.1 in
+    by_scan c xs rest (InQuotes c.code false) (InQuotes c.code w.0) Unclosed (scan_quote c.code (xs ++ rest) q)
     (scanned_runs (InQuotes c.code false) (InQuotes c.code w.0) xs rest (runs_quotes xs c.code false w.0 l w.1) (stops_quotes c.code w.0 rest h)) (kind_open c.code c.code w.0)
 
 -- punctuators
 
 by_mark : (c : Character) (cs : List Character) → is_quote c.code ≡ false → is_nondigit c.code ≡ false → begins_number c.code (bytes_of cs) ≡ false
-    → plain_piece c cs ≡ mark_piece c cs (longest table c cs)
+    → plain_piece c cs ≡ punctuator_or_byte c cs (longest table c cs)
 by_mark c cs q n d = plain_is c cs None (scan_none c.code cs q n d)
 
 cancelled : (xs ys zs : List Character) → xs ++ ys ≡ xs ++ zs → ys ≡ zs
@@ -233,7 +249,7 @@ cancelled (x ∷ xs) ys zs e = cancelled xs ys zs (tail_of x x (xs ++ ys) (xs ++
     tail_of : (c d : Character) (xs ys : List Character) → c ∷ xs ≡ d ∷ ys → xs ≡ ys
     tail_of c d xs ys e = cc
 
--- the longer of two fronts of a text goes on behind the other
+-- the longer of two fronts of a text goes on after the other
 longer : (xs ys rest others : List ℕ) → length xs ≤ length ys → xs ++ rest ≡ ys ++ others → (more : List ℕ) × (ys ≡ xs ++ more) × (rest ≡ more ++ others)
 longer [] ys rest others l e = (ys, refl, e)
 longer (x ∷ xs) [] rest others l e = absurd (omega arith)
@@ -244,8 +260,8 @@ longer (x ∷ xs) (y ∷ ys) rest others l e =
     joined : (x y : ℕ) (xs ys : List ℕ) → x ≡ y → xs ≡ ys → x ∷ xs ≡ y ∷ ys
     joined x y xs ys e f = cc
 
-punct_by : (c : Character) (xs rest : List Character) (o : Option Mark) → Contains punctuators (bytes_of (c ∷ xs)) → IsLongest (bytes_of (c ∷ xs)) (bytes_of rest)
-    → longest table c (xs ++ rest) ≡ o → mark_piece c (xs ++ rest) o ≡ found (piece Punct (c ∷ xs)) rest
+punct_by : (c : Character) (xs rest : List Character) (o : Option FoundPunctuator) → Contains punctuators (bytes_of (c ∷ xs)) → IsLongest (bytes_of (c ∷ xs)) (bytes_of rest)
+    → longest table c (xs ++ rest) ≡ o → punctuator_or_byte c (xs ++ rest) o ≡ found (piece Punct (c ∷ xs)) rest
 punct_by c xs rest None k l e =
     let s = stands_bytes (bytes_of (c ∷ xs)) c (xs ++ rest) (bytes_of rest) (λ h. some_empty c.code (bytes_of xs) h) (bytes_append (c ∷ xs) rest) in
     absurd (none_stands table c (xs ++ rest) (bytes_of (c ∷ xs)) s.0 e (contains_has (bytes_of (c ∷ xs)) k) s.1)
@@ -316,8 +332,8 @@ punct_complete c xs rest k l =
 
 -- other bytes
 
-other_by : (c : Character) (rest : List Character) (o : Option Mark) → ((text : List ℕ) → ¬ (list_any (bytes_eq (c.code ∷ text)) punctuators ≡ true))
-    → longest table c rest ≡ o → mark_piece c rest o ≡ found (piece Other (c ∷ [])) rest
+other_by : (c : Character) (rest : List Character) (o : Option FoundPunctuator) → ((text : List ℕ) → ¬ (list_any (bytes_eq (c.code ∷ text)) punctuators ≡ true))
+    → longest table c rest ≡ o → punctuator_or_byte c rest o ≡ found (piece Other (c ∷ [])) rest
 other_by c rest None h e = refl
 other_by c rest (Some mark) h e =
     let f = table_first c rest mark e in let t = longest_stands table c rest mark e in
@@ -374,7 +390,7 @@ piece_complete before Name c xs rest k f =
     name_other e = cc
 piece_complete before Number c xs rest k f =
     let p = number_parts (bytes_of (c ∷ xs)) f.0 in
-    let e = head_same c.code p.first (bytes_of xs) p.behind p.is in let t = tail_same c.code p.first (bytes_of xs) p.behind p.is in
+    let e = head_same c.code p.first (bytes_of xs) p.others p.is in let t = tail_same c.code p.first (bytes_of xs) p.others p.is in
     let n : begins_number c.code (bytes_of xs) ≡ true = ap₂ begins_number e t ∙ p.begins in
     let g : GoesOn c.code (bytes_of xs) = subst₂ GoesOn (sym e) (sym t) p.goes in
     finish before Number c xs rest k (λ h. number_other h) (solid_code c k.line (digit_no_blank c.code _ n)) (number_complete c xs rest n g f.1)
@@ -445,8 +461,8 @@ comment_complete before mark text end rest w (inr h) =
     subst₂ (λ m e. element_at before.directive ((m ++ (text ++ e)) ++ rest) ≡ found (comment m text e) rest) (sym t.is) (sym u.is)
     (block_complete before.directive t.one t.other u.one u.other text rest (and_parts (is_well t.one) _ v).0 t.one_code t.other_code u.one_code u.other_code h.2)
 
-pub element_complete : (before : Before) (e : Element) (rest : List Character) → list_all is_well (spelling e ++ rest) ≡ true → IsElement before e rest
-    → element_at before.directive (spelling e ++ rest) ≡ found e rest
+pub element_complete : (before : Before) (e : Element) (rest : List Character) → list_all is_well (characters_of e ++ rest) ≡ true → IsElement before e rest
+    → element_at before.directive (characters_of e ++ rest) ≡ found e rest
 element_complete before (separator c) rest w h = element_is before.directive c rest ∙ cond-true (is_separator c) (found (separator c) rest) (solid_at before.directive c rest) h
 element_complete before (comment mark text end) rest w h = comment_complete before mark text end rest w h
 element_complete before (piece kind []) rest w h = absurd (no_piece kind rest h.form)

@@ -1,5 +1,5 @@
 -- What the lexer finds in front of a text stands there.
-use Rattle.std.proofs.Common.{◌≡◌, ◌≢◌, ℕ, ◌-◌, List, [], ◌∷◌, ◌++◌, Option, Some, None, Bool, true, false, not, cond, ◌&&◌, ◌||◌, ◌==◌, refl, sym, ap, ap₂, ◌∙◌, subst, arith, length, take, append_assoc, append-nil, codes, is_some, Contains, ◌⊎◌, inl, inr, ⊎_elim}
+use Rattle.std.proofs.Common.{◌≡◌, ◌≢◌, ℕ, ◌-◌, List, [], ◌∷◌, ◌++◌, Option, Some, None, Bool, true, false, not, cond, ◌&&◌, ◌||◌, ◌==◌, refl, sym, ap, ap₂, ◌∙◌, subst, arith, length, take, append_assoc, append-nil, codes, Contains, ◌⊎◌, inl, inr, ⊎_elim}
 use Rattle.std.specs.List.{list_all}
 use Rattle.std.proofs.lemmas.List.{take-append-drop, length-append}
 use Rattle.std.proofs.lemmas.Bool.{and_parts, and_from, both_ways, cond-true, cond-false, cases_Bool, eqb-true, or_cases}
@@ -12,12 +12,14 @@ use Rattle.cx_lex.specs.declared.character.Character.{Character}
 use Rattle.cx_lex.specs.declared.scan.Scan.{Scan}
 use Rattle.cx_lex.specs.declared.scan.Scan.TheVariants.{InName, InNumber, InQuotes, InHeader, InLineComment, InBlockComment, Closed}
 use Rattle.cx_lex.specs.Characters.{is_digit, is_nondigit, is_word}
-use Rattle.cx_lex.specs.Elements.{HasForm, HasHeader, IsHeaderName, IsQuoted, is_separator, lacks, on_one_line, piece, separator, within_quotes}
+use Rattle.cx_lex.proofs.MemberLaws.{ReadMembers, within_read}
+use Rattle.cx_lex.specs.Elements.{AreMembers, HasForm, HasHeader, IsHeaderName, IsQuoted, is_separator, lacks, on_one_line, piece, separator}
+use Rattle.cx_lex.specs.Shapes.Quotes.{within_quotes}
 use Rattle.cx_lex.specs.Forms.{GoesOn, IsLongest, IsToken, goes_on, punctuators}
-use Rattle.cx_lex.specs.Fronts.{all_but_two, comment_at, comment_scan, element_at, found, header_close, header_or_plain, last_two, mark_piece, scan_or_mark, piece_at, piece_scan, plain_piece, solid_at}
+use Rattle.cx_lex.specs.Shapes.Fronts.{all_but_two, comment_at, comment_scan, element_at, found, header_close, header_or_plain, last_two, punctuator_or_byte, scan_or_punctuator, piece_at, piece_scan, plain_piece, solid_at}
 use Rattle.cx_lex.specs.Lines.{bytes_of}
-use Rattle.cx_lex.specs.Pieces.{BeginsWith, StandsNowhere}
-use Rattle.cx_lex.specs.Scanning.{Mark, is_closed, longest, scan_kind, scanned, step_of, table}
+use Rattle.cx_lex.specs.Elements.{BeginsWith, StandsNowhere}
+use Rattle.cx_lex.specs.Shapes.Scanning.{FoundPunctuator, is_closed, longest, scan_kind, scanned, step_of, table}
 use Rattle.cx_lex.proofs.Blocks.{block_closed, block_open, block_stops, last_star}
 use Rattle.cx_lex.proofs.Found.{Is, IsFound}
 use Rattle.cx_lex.proofs.FrontLaws.{NoMark, ScanIs, by_two, close_ways, comment_is, comment_ways, element_end, element_is, header_has, header_is, is_quote, kind_char, kind_name, kind_number, kind_open, kind_string, mark_begins, line_mark, block_mark, piece_is, plain_is, quote_one_of, quote_ways, scan_is, solid_comment, solid_end, solid_piece}
@@ -238,11 +240,17 @@ quoted_form q c xs e k = (
   bytes_of k.parts.inner,
   joined c.code q (bytes_of xs) (bytes_of k.parts.inner ++ q ∷ []) e
       (ap bytes_of k.parts.is ∙ bytes_behind k.parts.inner k.parts.close ∙ ap (λ b. bytes_of k.parts.inner ++ b ∷ []) k.parts.code),
-  k.within,
+  within_read q (bytes_of k.parts.inner) false k.within,
 )
   where
     joined : (x y : ℕ) (xs ys : List ℕ) → x ≡ y → xs ≡ ys → x ∷ xs ≡ y ∷ ys
     joined x y xs ys e f = cc
+
+-- what is read with no quote at its end
+unclosed_read : (q : ℕ) (bs : List ℕ) (r : Bool) → ReadMembers q bs r
+    → AreMembers q bs ⊎ ((members : List ℕ) × (bs ≡ members ++ 92 ∷ []) × AreMembers q members)
+unclosed_read q bs false h = inl h
+unclosed_read q bs true h = inr h
 
 char_no_header : Char ≡ Header → ⊥
 char_no_header e = cc
@@ -273,7 +281,7 @@ quote_found before c cs p n =
     (λ (k : (t : Bool) × (s.end ≡ InQuotes c.code t) × (within_quotes c.code false (bytes_of s.taken) ≡ Some t)).
     subst (λ t. IsFound before (c ∷ cs) (piece t (c ∷ s.taken)) s.rest) (sym (ap (scan_kind c.code) k.1 ∙ kind_open c.code c.code k.0))
     (other_found before Unclosed c s.taken s.rest cs p r.whole q.0
-    ((quote_one_of c.code ∙ n, ap is_some k.2), quotes_stops c.code k.0 s.rest (subst (λ t. Stops t s.rest) k.1 r.stops))
+    ((quote_one_of c.code ∙ n, unclosed_read c.code (bytes_of s.taken) k.0 (within_read c.code (bytes_of s.taken) k.0 k.2)), quotes_stops c.code k.0 s.rest (subst (λ t. Stops t s.rest) k.1 r.stops))
     (λ h. unclosed_no_header h)))
     q.1
 
@@ -285,14 +293,14 @@ record Marked (c : Character) (cs : List Character) : Type 0 where
   no_name : is_nondigit c.code ≡ false
   no_number : begins_number c.code (bytes_of cs) ≡ false
 
-no_longer : (kind : Kind) (c : Character) (cs : List Character) (mark : Mark) (b : ℕ) (bs : List ℕ) (d : ℕ) (ds others : List ℕ)
+no_longer : (kind : Kind) (c : Character) (cs : List Character) (mark : FoundPunctuator) (b : ℕ) (bs : List ℕ) (d : ℕ) (ds others : List ℕ)
     → Marked c cs → IsFirst table c cs mark → mark.word ≡ b ∷ bs → c.code ≡ b → bytes_of cs ≡ bs ++ ((d ∷ ds) ++ others)
     → IsToken kind (b ∷ (bs ++ d ∷ ds)) → ⊥
 no_longer Name c cs mark b bs d ds others m f w e g t = both_ways (is_nondigit b) (sym (ap is_nondigit e) ∙ m.no_name) t.0
 no_longer Number c cs mark b bs d ds others m f w e g t =
     let p = number_parts (b ∷ (bs ++ d ∷ ds)) t in
     both_ways (begins_number b (bs ++ d ∷ ds)) (front_number b bs d ds others (ap (λ x. begins_number x (bs ++ ((d ∷ ds) ++ others))) (sym e) ∙ ap (begins_number c.code) (sym g) ∙ m.no_number))
-    (moved b p.first (bs ++ d ∷ ds) p.behind p.is p.begins)
+    (moved b p.first (bs ++ d ∷ ds) p.others p.is p.begins)
   where
     moved : (b c : ℕ) (bs cs : List ℕ) → b ∷ bs ≡ c ∷ cs → begins_number c cs ≡ true → begins_number b bs ≡ true
     moved b c bs cs e g = ap₂ begins_number (head_same b c bs cs e) (tail_same b c bs cs e) ∙ g
@@ -312,7 +320,7 @@ no_longer Punct c cs mark b bs d ds others m f w e g t =
     some_empty b bs e = cc
 no_longer _ c cs mark b bs d ds others m f w e g t = t
 
-mark_longest : (c : Character) (cs : List Character) (mark : Mark) (bs : List ℕ) (rest : List Character)
+mark_longest : (c : Character) (cs : List Character) (mark : FoundPunctuator) (bs : List ℕ) (rest : List Character)
     → Marked c cs → IsFirst table c cs mark → mark.word ≡ c.code ∷ bs → bytes_of cs ≡ bs ++ bytes_of rest → IsLongest (c.code ∷ bs) (bytes_of rest)
 mark_longest c cs mark bs rest m f w g = λ kind more others e t. shown kind more others e t
   where
@@ -327,7 +335,7 @@ bytes_append (x ∷ xs) ys = ap (λ l. x.code ∷ l) (bytes_append xs ys)
 tail_of : (c d : Character) (xs ys : List Character) → c ∷ xs ≡ d ∷ ys → xs ≡ ys
 tail_of c d xs ys e = cc
 
-punct_found : (before : Before) (c : Character) (cs : List Character) (mark : Mark) → Plain before c cs → Marked c cs → longest table c cs ≡ Some mark
+punct_found : (before : Before) (c : Character) (cs : List Character) (mark : FoundPunctuator) → Plain before c cs → Marked c cs → longest table c cs ≡ Some mark
     → IsFound before (c ∷ cs) (piece Punct (take (length mark.word) (c ∷ cs))) mark.rest
 punct_found before c cs mark p m h =
     let s = longest_stands table c cs mark h in let f = table_first c cs mark h in
@@ -363,21 +371,21 @@ one_byte_found before c cs p m h =
     or_none true b h = absurd cc
     or_none false b h = refl
 
-mark_found : (before : Before) (c : Character) (cs : List Character) (o : Option Mark) → Plain before c cs → Marked c cs → longest table c cs ≡ o
-    → Is before (c ∷ cs) (mark_piece c cs o)
+mark_found : (before : Before) (c : Character) (cs : List Character) (o : Option FoundPunctuator) → Plain before c cs → Marked c cs → longest table c cs ≡ o
+    → Is before (c ∷ cs) (punctuator_or_byte c cs o)
 mark_found before c cs None p m h = one_byte_found before c cs p m h
 mark_found before c cs (Some mark) p m h = punct_found before c cs mark p m h
 
 scan_found : (before : Before) (c : Character) (cs : List Character) (o : Option Scan) → Plain before c cs → ScanIs c.code cs o
-    → Is before (c ∷ cs) (scan_or_mark c cs o)
+    → Is before (c ∷ cs) (scan_or_punctuator c cs o)
 scan_found before c cs None p k = mark_found before c cs (longest table c cs) p (record { no_quote = k.0; no_name = k.1; no_number = k.2 }) refl
 scan_found before c cs (Some scan) p k =
     ⊎_elim
-    (λ (q : (is_quote c.code ≡ true) × (scan ≡ InQuotes c.code false)). subst (λ s. Is before (c ∷ cs) (scan_or_mark c cs (Some s))) (sym q.1) (quote_found before c cs p q.0))
+    (λ (q : (is_quote c.code ≡ true) × (scan ≡ InQuotes c.code false)). subst (λ s. Is before (c ∷ cs) (scan_or_punctuator c cs (Some s))) (sym q.1) (quote_found before c cs p q.0))
     (λ (k2 : ((is_nondigit c.code ≡ true) × (scan ≡ InName)) ⊎ ((begins_number c.code (bytes_of cs) ≡ true) × (scan ≡ InNumber c.code))). ⊎_elim
-    (λ (q : (is_nondigit c.code ≡ true) × (scan ≡ InName)). subst (λ s. Is before (c ∷ cs) (scan_or_mark c cs (Some s))) (sym q.1) (name_found before c cs p q.0))
+    (λ (q : (is_nondigit c.code ≡ true) × (scan ≡ InName)). subst (λ s. Is before (c ∷ cs) (scan_or_punctuator c cs (Some s))) (sym q.1) (name_found before c cs p q.0))
     (λ (q : (begins_number c.code (bytes_of cs) ≡ true) × (scan ≡ InNumber c.code)).
-    subst (λ s. Is before (c ∷ cs) (scan_or_mark c cs (Some s))) (sym q.1) (number_found before c cs p q.0)) k2)
+    subst (λ s. Is before (c ∷ cs) (scan_or_punctuator c cs (Some s))) (sym q.1) (number_found before c cs p q.0)) k2)
     k
 
 plain_found : (before : Before) (c : Character) (cs : List Character) → Plain before c cs → Is before (c ∷ cs) (plain_piece c cs)

@@ -6,9 +6,11 @@ use Rattle.std.proofs.lemmas.Bool.Decides.{nat_tests}
 use Rattle.std.proofs.lemmas.List.Folds.{list_all-append}
 use Rattle.cx_tokens.specs.declared.token.Kind.{Kind}
 use Rattle.cx_tokens.specs.declared.token.Kind.TheVariants.{Name, Number, Punct}
-use Rattle.cx_lex.specs.Characters.{is_blank, is_digit, is_mark, is_newline, is_nondigit, is_word}
-use Rattle.cx_lex.specs.Cut.{is_pair, joins, kind_of, starts_number, value_of}
-use Rattle.cx_lex.specs.Forms.{BeginsWithDigit, GoesOn, IsIntConstant, IsIdentifier, IsLongest, IsPermitted, IsToken, goes_on, punctuators}
+use Rattle.cx_lex.specs.FirstPieces.{is_blank, is_mark, is_newline}
+use Rattle.cx_lex.specs.Characters.{is_digit, is_nondigit, is_word}
+use Rattle.cx_lex.specs.Shapes.FirstCut.{is_pair, joins, kind_of, starts_number, value_of}
+use Rattle.cx_lex.specs.Forms.{BeginsWithDigit, GoesOn, IsIdentifier, IsLongest, IsToken, goes_on, punctuators}
+use Rattle.cx_lex.specs.FirstPieces.{IsIntConstant, IsPermitted}
 use Rattle.cx_lex.proofs.Digits.{value_from, value_some}
 
 -- classes of characters
@@ -85,7 +87,7 @@ words_solid : (bs : List ℕ) → list_all is_word bs ≡ true → list_all (λ 
 words_solid [] h = refl
 words_solid (b ∷ bs) h = let p = and_parts (is_word b) (list_all is_word bs) h in and_from _ _ (ap not (word_not_blank b p.0)) (words_solid bs p.1)
 
--- what goes on behind digits
+-- what goes on after digits
 goes_on_digits : (last : ℕ) (bs : List ℕ) (c : ℕ) (cs : List ℕ) → is_digit last ≡ true → list_all is_digit bs ≡ true
     → GoesOn last (bs ++ c ∷ cs) → (is_word c ≡ true) ⊎ (c ≡ 46)
 goes_on_digits last [] c cs d a g = digit_goes_on last c d g.0
@@ -344,7 +346,7 @@ mark_longest b rest m j = λ sort more others e t. shown sort more others e t
     shown sort (d ∷ ds) others e t =
         absurd (no_more_mark sort b d ds m (sym (joins_is b d (ds ++ others)) ∙ sym (ap (joins b) e) ∙ j) t)
 
--- no word goes on behind the longest word
+-- no word goes on after the longest word
 pub longest_stops : (c : ℕ) (cs rest : List ℕ) → list_all is_word (c ∷ cs) ≡ true → IsLongest (c ∷ cs) rest → begins_word rest ≡ false
 longest_stops c cs [] a l = refl
 longest_stops c cs (d ∷ ds) a l =

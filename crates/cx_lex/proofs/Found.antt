@@ -3,17 +3,17 @@ use Rattle.std.proofs.Common.{◌≡◌, ℕ, List, [], ◌∷◌, ◌++◌, cod
 use Rattle.cx_base.specs.declared.place.Place.{Place}
 use Rattle.cx_lex.specs.declared.before.Before.{Before}
 use Rattle.cx_lex.specs.declared.character.Character.{Character}
-use Rattle.cx_lex.specs.Elements.{Element, IsElement, spelling}
-use Rattle.cx_lex.specs.Fronts.{Found, found, nothing, open_comment}
+use Rattle.cx_lex.specs.Elements.{Element, IsElement, characters_of}
+use Rattle.cx_lex.specs.Shapes.Fronts.{Found, found, nothing, open_comment}
 use Rattle.cx_lex.specs.Lexing.{place_of}
 use Rattle.cx_lex.specs.Lines.{bytes_of}
-use Rattle.cx_lex.specs.Pieces.{StandsNowhere}
+use Rattle.cx_lex.specs.Elements.{StandsNowhere}
 
 -- an element that stands in front of a text, with its rest
 pub record IsFound (before : Before) (cs : List Character) (e : Element) (rest : List Character) : Type 0 where
   pub is_element : IsElement before e rest
-  pub whole_text : cs ≡ spelling e ++ rest
-  pub some_text : (c : Character) × (more : List Character) × (spelling e ≡ c ∷ more)
+  pub whole_text : cs ≡ characters_of e ++ rest
+  pub some_text : (c : Character) × (more : List Character) × (characters_of e ≡ c ∷ more)
 
 -- a comment with no end in front of a text
 pub record IsOpen (cs : List Character) (place : Place) : Type 0 where

@@ -11,10 +11,10 @@ use Rattle.cx_lex.specs.declared.scan.Scan.{Scan}
 use Rattle.cx_lex.specs.declared.scan.Scan.TheVariants.{InName, InNumber, InQuotes, InHeader, InLineComment, InBlockComment, Closed}
 use Rattle.cx_lex.specs.Characters.{is_digit, is_nondigit, is_one_of}
 use Rattle.cx_lex.specs.Elements.{HasHeader, IsHeaderName, is_separator, lacks, on_one_line, piece, separator}
-use Rattle.cx_lex.specs.Fronts.{all_but_two, comment_at, comment_by, comment_scan, element_at, found, header_close, header_or, comment_or_piece, header_or_plain, last_two, nothing, piece_at, piece_scan, plain_piece, scan_or_mark, solid_at, starts_digit}
+use Rattle.cx_lex.specs.Shapes.Fronts.{all_but_two, comment_at, comment_by, comment_scan, element_at, found, header_close, header_or, comment_or_piece, header_or_plain, last_two, nothing, piece_at, piece_scan, plain_piece, scan_or_punctuator, solid_at, starts_digit}
 use Rattle.cx_lex.specs.Lines.{bytes_of}
-use Rattle.cx_lex.specs.Pieces.{BeginsWith}
-use Rattle.cx_lex.specs.Scanning.{Scanned, closed_kind, is_closed, scan_kind, scanned}
+use Rattle.cx_lex.specs.Elements.{BeginsWith}
+use Rattle.cx_lex.specs.Shapes.Scanning.{Scanned, closed_kind, is_closed, scan_kind, scanned}
 use Rattle.cx_lex.proofs.LongestLaws.{begins_number, digit_first}
 use Rattle.cx_lex.proofs.Quotes.{header_closes, runs_header}
 use Rattle.cx_lex.proofs.Runs.{runs_append, scanned_runs, stops_closed}
@@ -54,9 +54,9 @@ pub header_is : (c : Character) (cs : List Character) (s : Scanned) (b : Bool) �
 unfolding header_or
 header_is c cs s b e = ap (λ t. cond t (found (piece Header (c ∷ s.taken)) s.rest) (plain_piece c cs)) e
 
-pub plain_is : (c : Character) (cs : List Character) (o : Option Scan) → piece_scan c.code cs ≡ o → plain_piece c cs ≡ scan_or_mark c cs o
+pub plain_is : (c : Character) (cs : List Character) (o : Option Scan) → piece_scan c.code cs ≡ o → plain_piece c cs ≡ scan_or_punctuator c cs o
 unfolding plain_piece
-plain_is c cs o e = ap (scan_or_mark c cs) e
+plain_is c cs o e = ap (scan_or_punctuator c cs) e
 
 -- comments' marks
 

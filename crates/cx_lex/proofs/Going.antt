@@ -7,9 +7,10 @@ use Rattle.cx_lex.specs.declared.first_lexer.State.TheVariants.{Between}
 use Rattle.cx_lex.specs.declared.spot.Spot.{Spot}
 use Rattle.cx_lex.specs.declared.piece.Piece.{Piece}
 use Rattle.cx_base.specs.declared.place.Place.{Place}
-use Rattle.cx_lex.specs.Characters.{is_newline, is_word}
-use Rattle.cx_lex.specs.Cut.{closed, cut, extended, going, joined, mark_of, next}
-use Rattle.cx_lex.specs.Pieces.{after_byte, start}
+use Rattle.cx_lex.specs.FirstPieces.{is_newline}
+use Rattle.cx_lex.specs.Characters.{is_word}
+use Rattle.cx_lex.specs.Shapes.FirstCut.{closed, cut, extended, going, joined, mark_of, next}
+use Rattle.cx_lex.specs.FirstPieces.{after_byte, start}
 use Rattle.cx_lex.proofs.Joined.{joined_assoc, joined_empty, none_joined}
 
 pub cut_word : (spot : Spot) (state : State) (b : ℕ) (rest : List ℕ) → is_word b ≡ true

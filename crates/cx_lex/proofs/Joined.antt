@@ -1,7 +1,7 @@
 -- Lists of pieces that may be refused, one behind the other.
 use Rattle.std.proofs.Common.{◌≡◌, List, [], ◌++◌, Option, Some, None, refl, ap, append_assoc, append-nil}
 use Rattle.cx_lex.specs.declared.piece.Piece.{Piece}
-use Rattle.cx_lex.specs.Cut.{joined}
+use Rattle.cx_lex.specs.Shapes.FirstCut.{joined}
 
 pub joined_assoc : (a b c : Option (List Piece)) → joined (joined a b) c ≡ joined a (joined b c)
 unfolding joined

@@ -6,6 +6,7 @@ pub mod CutLaws
 pub mod Digits
 pub mod ElementComplete
 pub mod ElementSound
+mod Examples
 pub mod FormLaws
 pub mod Found
 pub mod FrontLaws
@@ -13,15 +14,18 @@ pub mod GoesLaws
 pub mod Going
 pub mod Joined
 pub mod LongestLaws
+pub mod MemberLaws
 pub mod OnePiece
 pub mod Onward
 pub mod Outcomes
+pub mod PieceOrNone
 pub mod Plain
 pub mod Quotes
 pub mod Runs
 pub mod Scans
 pub mod Sound
 pub mod Steps
+mod TextExamples
 pub mod Texts
 pub mod Walk
 pub mod Well

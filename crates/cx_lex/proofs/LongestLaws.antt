@@ -10,7 +10,7 @@ use Rattle.cx_lex.specs.declared.character.Character.{Character}
 use Rattle.cx_lex.specs.Characters.{is_digit, is_nondigit, is_one_of, is_word}
 use Rattle.cx_lex.specs.Forms.{BeginsWithDigit, GoesOn, IsLongest, IsPpNumber, IsToken, goes_on, punctuators}
 use Rattle.cx_lex.specs.Lines.{bytes_of}
-use Rattle.cx_lex.specs.Scanning.{Mark, behind, behind_word, longest, mark_or, table}
+use Rattle.cx_lex.specs.Shapes.Scanning.{FoundPunctuator, rest_after, rest_after_begin, longest, punctuator_or, table}
 use Rattle.cx_lex.proofs.FormLaws.{all_right, digit_word, nondigit_word, punctuator_no_word}
 use Rattle.cx_lex.proofs.Runs.{EndsNumber, NoWord, last_of}
 
@@ -84,10 +84,10 @@ number_form b bs n g = ⊎_elim (λ (d : is_digit b ≡ true). inl (d, g)) (λ (
 -- what a number is made of
 pub record NumberParts (text : List ℕ) : Type 0 where
   pub first : ℕ
-  pub behind : List ℕ
-  pub is : text ≡ first ∷ behind
-  pub begins : begins_number first behind ≡ true
-  pub goes : GoesOn first behind
+  pub others : List ℕ
+  pub is : text ≡ first ∷ others
+  pub begins : begins_number first others ≡ true
+  pub goes : GoesOn first others
 
 pub or_left : (a b : Bool) → a ≡ true → (a || b) ≡ true
 or_left true b h = refl
@@ -100,11 +100,11 @@ or_right false b h = h
 dot_number : (rest : List ℕ) → BeginsWithDigit rest → NumberParts (46 ∷ rest)
 dot_number [] d = absurd d
 dot_number (b ∷ bs) d =
-    record { first = 46; behind = b ∷ bs; is = refl; begins = or_right (is_digit 46) (digit_first (b ∷ bs)) d.0; goes = (dot_goes_on b d.0, d.1) }
+    record { first = 46; others = b ∷ bs; is = refl; begins = or_right (is_digit 46) (digit_first (b ∷ bs)) d.0; goes = (dot_goes_on b d.0, d.1) }
 
 pub number_parts : (text : List ℕ) → IsPpNumber text → NumberParts text
 number_parts [] (inl d) = absurd d
-number_parts (b ∷ bs) (inl d) = record { first = b; behind = bs; is = refl; begins = or_left (is_digit b) _ d.0; goes = d.1 }
+number_parts (b ∷ bs) (inl d) = record { first = b; others = bs; is = refl; begins = or_left (is_digit b) _ d.0; goes = d.1 }
 number_parts text (inr d) = subst NumberParts (sym d.1) (dot_number d.0 d.2)
 
 goes_more : (last : ℕ) (bs : List ℕ) (d : ℕ) (ds : List ℕ) → GoesOn last (bs ++ d ∷ ds) → goes_on (last_of last bs) d ≡ true
@@ -211,7 +211,7 @@ no_longer_number : (kind : Kind) (b : ℕ) (bs : List ℕ) (d : ℕ) (ds : List 
     → IsToken kind (b ∷ (bs ++ d ∷ ds)) → ⊥
 no_longer_number Name b bs d ds n w t =
     ⊎_elim (λ (u : is_digit b ≡ true). name_no_digit b t.0 u) (λ (u : ((b == 46) && digit_first bs) ≡ true). name_no_dot b t.0 (eqb-true b 46 (and_parts (b == 46) _ u).0)) (or_cases _ _ n)
-no_longer_number Number b bs d ds n w t = let p = number_parts (b ∷ (bs ++ d ∷ ds)) t in both_ways (goes_on (last_of b bs) d) w (goes_more b bs d ds (moved b p.first (bs ++ d ∷ ds) p.behind p.is p.goes))
+no_longer_number Number b bs d ds n w t = let p = number_parts (b ∷ (bs ++ d ∷ ds)) t in both_ways (goes_on (last_of b bs) d) w (goes_more b bs d ds (moved b p.first (bs ++ d ∷ ds) p.others p.is p.goes))
   where
     moved : (b c : ℕ) (bs cs : List ℕ) → b ∷ bs ≡ c ∷ cs → GoesOn c cs → GoesOn b bs
     moved b c bs cs e g = subst (λ x. GoesOn x bs) (sym (head_same b c bs cs e)) (subst (GoesOn c) (sym (tail_same b c bs cs e)) g)
@@ -267,7 +267,7 @@ falls_below n (v ∷ vs) w f h =
     ⊎_elim (λ (e : bytes_eq w v ≡ true). subst (λ x. length x ≤ n) (sym (bytes_same w v e)) q)
     (λ (e : has vs w ≡ true). let r = falls_below (length v) vs w p.1 e in omega arith) (or_cases (bytes_eq w v) (has vs w) h)
 
-longest_step : (w : List ℕ) (ws : List (List ℕ)) (c : Character) (cs : List Character) → longest (w ∷ ws) c cs ≡ mark_or (behind_word w c cs) w (longest ws c cs)
+longest_step : (w : List ℕ) (ws : List (List ℕ)) (c : Character) (cs : List Character) → longest (w ∷ ws) c cs ≡ punctuator_or (rest_after_begin w c cs) w (longest ws c cs)
 unfolding longest
 longest_step w ws c cs = refl
 
@@ -276,19 +276,19 @@ unfolding longest
 longest_end c cs = refl
 
 -- the word that was found is the first, and there is one where one stands
-pub record IsFirst (ws : List (List ℕ)) (c : Character) (cs : List Character) (mark : Mark) : Type 0 where
+pub record IsFirst (ws : List (List ℕ)) (c : Character) (cs : List Character) (mark : FoundPunctuator) : Type 0 where
   pub in_words : has ws mark.word ≡ true
-  pub stands : behind_word mark.word c cs ≡ Some mark.rest
-  pub most : (w : List ℕ) (rest : List Character) → has ws w ≡ true → behind_word w c cs ≡ Some rest → length w ≤ length mark.word
+  pub stands : rest_after_begin mark.word c cs ≡ Some mark.rest
+  pub most : (w : List ℕ) (rest : List Character) → has ws w ≡ true → rest_after_begin w c cs ≡ Some rest → length w ≤ length mark.word
 
 bytes_self : (a : List ℕ) → bytes_eq a a ≡ true
 bytes_self a = (bytes_eq-Decides a a).1 refl
 
-some_is : (a b : Mark) → Some a ≡ Some b → a ≡ b
+some_is : (a b : FoundPunctuator) → Some a ≡ Some b → a ≡ b
 some_is a b e = cc
 
-first_by : (n : ℕ) (v : List ℕ) (vs : List (List ℕ)) (c : Character) (cs : List Character) (mark : Mark) (o : Option (List Character))
-    → falling n (v ∷ vs) ≡ true → behind_word v c cs ≡ o → mark_or o v (longest vs c cs) ≡ Some mark
+first_by : (n : ℕ) (v : List ℕ) (vs : List (List ℕ)) (c : Character) (cs : List Character) (mark : FoundPunctuator) (o : Option (List Character))
+    → falling n (v ∷ vs) ≡ true → rest_after_begin v c cs ≡ o → punctuator_or o v (longest vs c cs) ≡ Some mark
     → (falling (length v) vs ≡ true → longest vs c cs ≡ Some mark → IsFirst vs c cs mark) → IsFirst (v ∷ vs) c cs mark
 first_by n v vs c cs mark (Some rest) f b e more =
     let p = and_parts (nat_le (length v) n) (falling (length v) vs) f in
@@ -308,53 +308,53 @@ first_by n v vs c cs mark None f b e more =
       most = λ w r h s. ⊎_elim (λ (k : bytes_eq w v ≡ true). absurd (none_some w r (bytes_same w v k) s)) (λ (k : has vs w ≡ true). m.most w r k s) (or_cases (bytes_eq w v) (has vs w) h);
     }
   where
-    none_some : (w : List ℕ) (r : List Character) → w ≡ v → behind_word w c cs ≡ Some r → ⊥
-    none_some w r e s = let f = ap (λ x. behind_word x c cs) e in cc
+    none_some : (w : List ℕ) (r : List Character) → w ≡ v → rest_after_begin w c cs ≡ Some r → ⊥
+    none_some w r e s = let f = ap (λ x. rest_after_begin x c cs) e in cc
 
-first_in : (n : ℕ) (ws : List (List ℕ)) (c : Character) (cs : List Character) (mark : Mark) → falling n ws ≡ true → longest ws c cs ≡ Some mark → IsFirst ws c cs mark
+first_in : (n : ℕ) (ws : List (List ℕ)) (c : Character) (cs : List Character) (mark : FoundPunctuator) → falling n ws ≡ true → longest ws c cs ≡ Some mark → IsFirst ws c cs mark
 first_in n [] c cs mark f e = absurd (let g = longest_end c cs in cc)
-first_in n (v ∷ vs) c cs mark f e = first_by n v vs c cs mark (behind_word v c cs) f refl (sym (longest_step v vs c cs) ∙ e) (λ g h. first_in (length v) vs c cs mark g h)
+first_in n (v ∷ vs) c cs mark f e = first_by n v vs c cs mark (rest_after_begin v c cs) f refl (sym (longest_step v vs c cs) ∙ e) (λ g h. first_in (length v) vs c cs mark g h)
 
-pub table_first : (c : Character) (cs : List Character) (mark : Mark) → longest table c cs ≡ Some mark → IsFirst table c cs mark
+pub table_first : (c : Character) (cs : List Character) (mark : FoundPunctuator) → longest table c cs ≡ Some mark → IsFirst table c cs mark
 table_first c cs mark e = first_in 4 table c cs mark table_falls e
 
 -- where no word was found, none stands
 none_by : (v : List ℕ) (vs : List (List ℕ)) (c : Character) (cs : List Character) (o : Option (List Character)) (w : List ℕ) (rest : List Character)
-    → behind_word v c cs ≡ o → mark_or o v (longest vs c cs) ≡ None → has (v ∷ vs) w ≡ true → behind_word w c cs ≡ Some rest
+    → rest_after_begin v c cs ≡ o → punctuator_or o v (longest vs c cs) ≡ None → has (v ∷ vs) w ≡ true → rest_after_begin w c cs ≡ Some rest
     → (longest vs c cs ≡ None → has vs w ≡ true → ⊥) → ⊥
 none_by v vs c cs (Some r) w rest b e h s more = cc
 none_by v vs c cs None w rest b e h s more =
-    ⊎_elim (λ (k : bytes_eq w v ≡ true). absurd (let f = ap (λ x. behind_word x c cs) (bytes_same w v k) in cc)) (λ (k : has vs w ≡ true). more e k) (or_cases (bytes_eq w v) (has vs w) h)
+    ⊎_elim (λ (k : bytes_eq w v ≡ true). absurd (let f = ap (λ x. rest_after_begin x c cs) (bytes_same w v k) in cc)) (λ (k : has vs w ≡ true). more e k) (or_cases (bytes_eq w v) (has vs w) h)
 
 pub none_stands : (ws : List (List ℕ)) (c : Character) (cs : List Character) (w : List ℕ) (rest : List Character)
-    → longest ws c cs ≡ None → has ws w ≡ true → behind_word w c cs ≡ Some rest → ⊥
+    → longest ws c cs ≡ None → has ws w ≡ true → rest_after_begin w c cs ≡ Some rest → ⊥
 none_stands [] c cs w rest e h s = cc
 none_stands (v ∷ vs) c cs w rest e h s =
-    none_by v vs c cs (behind_word v c cs) w rest refl (sym (longest_step v vs c cs) ∙ e) h s (λ f k. none_stands vs c cs w rest f k s)
+    none_by v vs c cs (rest_after_begin v c cs) w rest refl (sym (longest_step v vs c cs) ∙ e) h s (λ f k. none_stands vs c cs w rest f k s)
 
 -- words and bytes
 
-behind_same : (b : ℕ) (bs : List ℕ) (c : Character) (cs : List Character) → c.code ≡ b → behind (b ∷ bs) (c ∷ cs) ≡ behind bs cs
-unfolding behind
-behind_same b bs c cs e = cond-true (c.code == b) (behind bs cs) None (grind (arith, nat_tests))
+behind_same : (b : ℕ) (bs : List ℕ) (c : Character) (cs : List Character) → c.code ≡ b → rest_after (b ∷ bs) (c ∷ cs) ≡ rest_after bs cs
+unfolding rest_after
+behind_same b bs c cs e = cond-true (c.code == b) (rest_after bs cs) None (grind (arith, nat_tests))
 
-behind_nothing : (cs : List Character) → behind [] cs ≡ Some cs
-unfolding behind
+behind_nothing : (cs : List Character) → rest_after [] cs ≡ Some cs
+unfolding rest_after
 behind_nothing cs = refl
 
 -- a word stands in front where the bytes begin with it
-behind_bytes : (w : List ℕ) (cs : List Character) (others : List ℕ) → bytes_of cs ≡ w ++ others → (rest : List Character) × (behind w cs ≡ Some rest)
+behind_bytes : (w : List ℕ) (cs : List Character) (others : List ℕ) → bytes_of cs ≡ w ++ others → (rest : List Character) × (rest_after w cs ≡ Some rest)
 behind_bytes [] cs others e = (cs, behind_nothing cs)
 behind_bytes (b ∷ bs) [] others e = absurd cc
 behind_bytes (b ∷ bs) (c ∷ cs) others e =
     let h = behind_bytes bs cs others (tail_same _ _ _ _ e) in (h.0, behind_same b bs c cs (head_same _ _ _ _ e) ∙ h.1)
 
-word_bytes : (b : ℕ) (bs : List ℕ) (c : Character) (cs : List Character) → behind_word (b ∷ bs) c cs ≡ behind (b ∷ bs) (c ∷ cs)
-unfolding behind behind_word
+word_bytes : (b : ℕ) (bs : List ℕ) (c : Character) (cs : List Character) → rest_after_begin (b ∷ bs) c cs ≡ rest_after (b ∷ bs) (c ∷ cs)
+unfolding rest_after rest_after_begin
 word_bytes b bs c cs = refl
 
 pub stands_bytes : (w : List ℕ) (c : Character) (cs : List Character) (others : List ℕ) → (w ≡ [] → ⊥) → bytes_of (c ∷ cs) ≡ w ++ others
-    → (rest : List Character) × (behind_word w c cs ≡ Some rest)
+    → (rest : List Character) × (rest_after_begin w c cs ≡ Some rest)
 stands_bytes [] c cs others n e = absurd (n refl)
 stands_bytes (b ∷ bs) c cs others n e = let h = behind_bytes (b ∷ bs) (c ∷ cs) others e in (h.0, word_bytes b bs c cs ∙ h.1)
 

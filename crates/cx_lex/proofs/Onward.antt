@@ -1,4 +1,4 @@
--- How the lexer goes on behind an element.
+-- How the lexer goes on after an element.
 use Rattle.std.proofs.Common.{◌≡◌, ℕ, ◌+◌, ◌-◌, ◌<◌, ◌≤◌, List, [], ◌∷◌, ◌++◌, Bool, true, refl, sym, ap, ap₂, ◌∙◌, subst, subst₂, arith, length, length-append, append-nil}
 use Rattle.std.specs.List.{list_all}
 use Rattle.cx_base.specs.declared.place.Place.{Place}
@@ -8,9 +8,10 @@ use Rattle.cx_lex.specs.declared.character.Character.{Character}
 use Rattle.cx_lex.specs.declared.comment.Comment.{Comment}
 use Rattle.cx_lex.specs.declared.front.Front.TheVariants.{AtEnd, Separator, OfComment, OfPiece, OpenComment}
 use Rattle.cx_lex.specs.declared.piece.Piece.{Piece}
-use Rattle.cx_lex.specs.Behind.{behind_comment, behind_piece, behind_separator}
-use Rattle.cx_lex.specs.Elements.{Element, at_start, behind_element, comment, piece, piece_text, separator, spelling}
-use Rattle.cx_lex.specs.Fronts.{Found, found, front_of, nothing, open_comment, rest_of}
+use Rattle.cx_lex.specs.Shapes.After.{after_comment, after_piece, after_separator}
+use Rattle.cx_lex.specs.Elements.{Element, at_start, after_element, characters_of, comment, piece, separator}
+use Rattle.cx_tokens.specs.Digraphs.{is_digraph, plain_text}
+use Rattle.cx_lex.specs.Shapes.Fronts.{Found, found, front_of, nothing, open_comment, rest_of}
 use Rattle.cx_lex.specs.Lexing.{Outcome, lexed, place_of, too_long, unclosed_comment}
 use Rattle.cx_lex.specs.Lines.{bytes_of}
 use Rattle.cx_lex.proofs.Found.{Is, IsFound}
@@ -39,12 +40,12 @@ count_is before (piece kind cs) = refl
 -- an element is passed
 onward_more : (all cs : List Character) (limit : ℕ) (before : Before) (ps : List Piece) (ks : List Comment) (e : Element) (rest : List Character)
     → Onward all cs limit before ps ks → IsFound before cs e rest → length ps + count_of e ≤ limit
-    → Onward all rest limit (behind_element before e) (ps ++ own_pieces before e) (ks ++ own_comments before e)
+    → Onward all rest limit (after_element before e) (ps ++ own_pieces before e) (ks ++ own_comments before e)
 onward_more all cs limit before ps ks e rest w f n =
     let l : length (ps ++ own_pieces before e) ≡ length ps + count_of e = length-append ps (own_pieces before e) ∙ ap (λ m. length ps + m) (count_is before e) in
     record {
       within = omega arith;
-      well = well_behind (spelling e) rest (subst (λ t. list_all is_well t ≡ true) f.whole_text w.well);
+      well = well_behind (characters_of e) rest (subst (λ t. list_all is_well t ≡ true) f.whole_text w.well);
       onward = λ o g.
           subst (Goes at_start limit all) (put_twice ps (own_pieces before e) ks (own_comments before e) o)
           (w.onward (put (own_pieces before e) (own_comments before e) o)
@@ -82,7 +83,7 @@ pub record PieceFound (f : Found) (place : Place) (kind : Kind) (bytes : List �
   pub cs : List Character
   pub is : f ≡ found (piece kind cs) (rest_of f)
   pub place_is : place ≡ place_of cs
-  pub bytes_are : bytes ≡ piece_text kind (bytes_of cs)
+  pub bytes_are : bytes ≡ bytes_of cs
 
 pub piece_found : (f : Found) (place : Place) (kind : Kind) (bytes : List ℕ) → OfPiece place kind bytes ≡ front_of f → PieceFound f place kind bytes
 unfolding front_of rest_of
@@ -93,10 +94,10 @@ piece_found (found (comment mark text end) rest) place kind bytes e = absurd cc
 piece_found (found (piece sort cs) rest) place kind bytes e = piece_at sort cs rest place kind bytes e
   where
     piece_at : (sort : Kind) (cs rest : List Character) (place : Place) (kind : Kind) (bytes : List ℕ)
-        → OfPiece place kind bytes ≡ OfPiece (place_of cs) sort (piece_text sort (bytes_of cs)) → PieceFound (found (piece sort cs) rest) place kind bytes
+        → OfPiece place kind bytes ≡ OfPiece (place_of cs) sort (bytes_of cs) → PieceFound (found (piece sort cs) rest) place kind bytes
     piece_at sort cs rest place kind bytes e =
         let k : kind ≡ sort = cc in
-        record { cs = cs; is = ap (λ s. found (piece s cs) rest) (sym k); place_is = cc; bytes_are = subst (λ s. bytes ≡ piece_text s (bytes_of cs)) (sym k) cc }
+        record { cs = cs; is = ap (λ s. found (piece s cs) rest) (sym k); place_is = cc; bytes_are = cc }
 
 open_found : (f : Found) (place : Place) → OpenComment place ≡ front_of f → f ≡ open_comment place (rest_of f)
 unfolding front_of rest_of
@@ -116,51 +117,66 @@ end_found (found (piece kind cs) rest) e = absurd cc
 
 -- the steps of the loop
 
-behind_separator_is : (before : Before) (c : Character) → behind_element before (separator c) ≡ behind_separator before c.in_newline
-unfolding behind_element
-behind_separator_is before c = refl
+after_separator_is : (before : Before) (c : Character) → after_element before (separator c) ≡ after_separator before c.in_newline
+unfolding after_element
+after_separator_is before c = refl
 
-behind_comment_is : (before : Before) (mark text end : List Character) → behind_element before (comment mark text end) ≡ behind_comment before
-unfolding behind_element
-behind_comment_is before mark text end = refl
+after_comment_is : (before : Before) (mark text end : List Character) → after_element before (comment mark text end) ≡ after_comment before
+unfolding after_element
+after_comment_is before mark text end = refl
 
-behind_piece_is : (before : Before) (kind : Kind) (cs : List Character) → behind_element before (piece kind cs) ≡ behind_piece before kind (piece_text kind (bytes_of cs))
-unfolding behind_element
-behind_piece_is before kind cs = refl
+after_piece_is : (before : Before) (kind : Kind) (cs : List Character) → after_element before (piece kind cs) ≡ after_piece before kind (bytes_of cs)
+unfolding after_element
+after_piece_is before kind cs = refl
 
 pub onward_separator : (all cs : List Character) (limit : ℕ) (before : Before) (ps : List Piece) (ks : List Comment) (f : Found) (newline : Bool)
     → Onward all cs limit before ps ks → Is before cs f → Separator newline ≡ front_of f
-    → Onward all (rest_of f) limit (behind_separator before newline) ps ks
+    → Onward all (rest_of f) limit (after_separator before newline) ps ks
 onward_separator all cs limit before ps ks f newline w h e =
     let p = separator_found f newline e in
     let m = onward_more all cs limit before ps ks (separator p.0) (rest_of f) w (subst (Is before cs) p.1 h) (let n = w.within in omega arith) in
-    subst (λ b. Onward all (rest_of f) limit b ps ks) (behind_separator_is before p.0 ∙ ap (behind_separator before) (sym p.2))
-    (subst₂ (λ qs ls. Onward all (rest_of f) limit (behind_element before (separator p.0)) qs ls) (append-nil ps) (append-nil ks) m)
+    subst (λ b. Onward all (rest_of f) limit b ps ks) (after_separator_is before p.0 ∙ ap (after_separator before) (sym p.2))
+    (subst₂ (λ qs ls. Onward all (rest_of f) limit (after_element before (separator p.0)) qs ls) (append-nil ps) (append-nil ks) m)
 
 pub onward_comment : (all cs : List Character) (limit : ℕ) (before : Before) (ps : List Piece) (ks : List Comment) (f : Found) (place : Place) (bytes : List ℕ)
     → Onward all cs limit before ps ks → Is before cs f → OfComment place bytes ≡ front_of f
-    → Onward all (rest_of f) limit (behind_comment before) ps (ks ++ (record { place = place; text = bytes; alone = before.first_on_line }) ∷ [])
+    → Onward all (rest_of f) limit (after_comment before) ps (ks ++ (record { place = place; text = bytes; alone = before.first_on_line }) ∷ [])
 onward_comment all cs limit before ps ks f place bytes w h e =
     let p = comment_found f place bytes e in
     let m = onward_more all cs limit before ps ks (comment p.mark p.text p.end) (rest_of f) w (subst (Is before cs) p.is h) (let n = w.within in omega arith) in
     let k = ap₂ (λ (at : Place) (t : List ℕ). ks ++ (record { place = at; text = t; alone = before.first_on_line }) ∷ []) (sym p.place_is) (sym p.bytes_are) in
-    subst (λ b. Onward all (rest_of f) limit b ps (ks ++ (record { place = place; text = bytes; alone = before.first_on_line }) ∷ [])) (behind_comment_is before p.mark p.text p.end)
-    (subst₂ (λ qs ls. Onward all (rest_of f) limit (behind_element before (comment p.mark p.text p.end)) qs ls) (append-nil ps) k m)
+    subst (λ b. Onward all (rest_of f) limit b ps (ks ++ (record { place = place; text = bytes; alone = before.first_on_line }) ∷ [])) (after_comment_is before p.mark p.text p.end)
+    (subst₂ (λ qs ls. Onward all (rest_of f) limit (after_element before (comment p.mark p.text p.end)) qs ls) (append-nil ps) k m)
+
+-- the piece that was spelt so
+abbrev pub spelt_piece : Before → Kind → Place → List ℕ → Piece
+spelt_piece before kind place bytes = record {
+  token = record {
+    kind = kind;
+    text = plain_text kind bytes;
+    place = place;
+    hide = [];
+    space = before.space;
+    parts = [];
+    digraph = is_digraph kind bytes;
+  };
+  first_on_line = before.first_on_line;
+}
 
 pub onward_piece : (all cs : List Character) (limit : ℕ) (before : Before) (ps : List Piece) (ks : List Comment) (f : Found) (place : Place) (kind : Kind) (bytes : List ℕ)
     → Onward all cs limit before ps ks → Is before cs f → OfPiece place kind bytes ≡ front_of f → length ps < limit
-    → Onward all (rest_of f) limit (behind_piece before kind bytes)
-    (ps ++ (record { token = record { kind = kind; text = bytes; place = place; hide = []; space = before.space; parts = [] }; first_on_line = before.first_on_line }) ∷ []) ks
+    → Onward all (rest_of f) limit (after_piece before kind bytes)
+    (ps ++ spelt_piece before kind place bytes ∷ []) ks
 onward_piece all cs limit before ps ks f place kind bytes w h e n =
     let p = piece_found f place kind bytes e in
     let m = onward_more all cs limit before ps ks (piece kind p.cs) (rest_of f) w (subst (Is before cs) p.is h) (omega arith) in
     let k =
-    ap₂ (λ (at : Place) (t : List ℕ). ps ++ (record { token = record { kind = kind; text = t; place = at; hide = []; space = before.space; parts = [] }; first_on_line = before.first_on_line }) ∷ [])
+    ap₂ (λ (at : Place) (t : List ℕ). ps ++ spelt_piece before kind at t ∷ [])
     (sym p.place_is) (sym p.bytes_are) in
     subst (λ b. Onward all (rest_of f) limit b
-    (ps ++ (record { token = record { kind = kind; text = bytes; place = place; hide = []; space = before.space; parts = [] }; first_on_line = before.first_on_line }) ∷ []) ks)
-    (behind_piece_is before kind p.cs ∙ ap (behind_piece before kind) (sym p.bytes_are))
-    (subst₂ (λ qs ls. Onward all (rest_of f) limit (behind_element before (piece kind p.cs)) qs ls) k (append-nil ks) m)
+    (ps ++ spelt_piece before kind place bytes ∷ []) ks)
+    (after_piece_is before kind p.cs ∙ ap (after_piece before kind) (sym p.bytes_are))
+    (subst₂ (λ qs ls. Onward all (rest_of f) limit (after_element before (piece kind p.cs)) qs ls) k (append-nil ks) m)
 
 -- the ends of the loop
 
@@ -192,7 +208,7 @@ onward_long all cs limit before ps ks f place kind bytes w h e n =
 
 found_smaller : (before : Before) (cs : List Character) (e : Element) (rest : List Character) → IsFound before cs e rest → length rest < length cs
 found_smaller before cs e rest f =
-    let n = ap length f.whole_text ∙ length-append (spelling e) rest in
+    let n = ap length f.whole_text ∙ length-append (characters_of e) rest in
     let m = ap length f.some_text.2 in omega (arith, n, m)
 
 pub separator_smaller : (before : Before) (cs : List Character) (f : Found) (newline : Bool) → Is before cs f → Separator newline ≡ front_of f → length (rest_of f) < length cs

@@ -1,5 +1,5 @@
 -- The outcome of a text, as it is computed element by element.
-use Rattle.std.proofs.Common.{◌≡◌, ℕ, zero, suc, ◌+◌, ◌-◌, ◌<◌, ◌≤◌, List, [], ◌∷◌, ◌++◌, Bool, true, false, cond, ◌&&◌, ◌==◌, nat_lt, refl, sym, ap, ap₂, ◌∙◌, subst, arith, length, append_assoc, append-nil, flat_map, map, codes}
+use Rattle.std.proofs.Common.{◌≡◌, ℕ, zero, suc, ◌+◌, ◌-◌, ◌<◌, ◌≤◌, List, [], ◌∷◌, ◌++◌, Bool, true, false, cond, ◌&&◌, ◌==◌, refl, sym, ap, ap₂, ◌∙◌, subst, arith, length, append_assoc, append-nil, flat_map, map, codes}
 use Rattle.std.specs.List.{list_all}
 use Rattle.std.proofs.lemmas.List.{length-append}
 use Rattle.cx_base.specs.declared.place.Place.{Place}
@@ -8,13 +8,15 @@ use Rattle.cx_lex.specs.declared.before.Before.{Before}
 use Rattle.cx_lex.specs.declared.character.Character.{Character}
 use Rattle.cx_lex.specs.declared.comment.Comment.{Comment}
 use Rattle.cx_lex.specs.declared.piece.Piece.{Piece}
-use Rattle.cx_lex.specs.Answers.{IsMadeOf, comment_texts, piece_texts, without_deleted}
-use Rattle.cx_lex.specs.Elements.{Element, IsElement, at_start, behind_element, comment, piece, piece_text, separator, spelling}
-use Rattle.cx_lex.specs.Fronts.{Found, element_at, found, nothing, open_comment}
+use Rattle.cx_lex.specs.WholeText.{ConsistsOf, comment_texts, piece_spellings, piece_texts, without_deleted, without_newline}
+use Rattle.cx_lex.specs.Elements.{Element, IsElement, at_start, after_element, characters_of, comment, piece, separator}
+use Rattle.cx_tokens.specs.Digraphs.{plain_text, spelling_of}
+use Rattle.cx_tokens.proofs.DigraphLaws.{spelling_kept}
+use Rattle.cx_lex.specs.Shapes.Fronts.{Found, element_at, found, nothing, open_comment}
 use Rattle.cx_lex.specs.Lexing as lexing
-use Rattle.cx_lex.specs.Lexing.{AreElements, Lexes, Outcome, comments_of, lexed, pieces_of, place_of, spelled, too_long, unclosed_comment}
-use Rattle.cx_lex.specs.Lines.{bytes_of, characters, file_characters, file_start, newline_size, next_column, next_line}
-use Rattle.cx_lex.specs.Pieces.{StandsNowhere}
+use Rattle.cx_lex.specs.Lexing.{AreElements, Lexes, Outcome, comments_of, lexed, piece_of, pieces_of, place_of, all_characters, too_long, unclosed_comment}
+use Rattle.cx_lex.specs.Lines.{begins_with_newline, bytes_of, characters, characters_after_newline, file_characters, file_start, next_line, place_after}
+use Rattle.cx_lex.specs.Elements.{StandsNowhere}
 use Rattle.cx_lex.proofs.ElementComplete.{element_complete, open_complete}
 use Rattle.cx_lex.proofs.ElementSound.{bytes_append, element_sound}
 use Rattle.cx_lex.proofs.Found.{Is, IsFound}
@@ -23,21 +25,21 @@ use Rattle.cx_lex.proofs.GoesLaws.{Goes, comments_more, count_more, count_of, go
 use Rattle.cx_lex.proofs.Well.{is_well, well_behind, well_characters}
 
 -- what comes of a piece that was found, where `go` tells what comes of the rest
-piece_after : (Before → ℕ → List Character → Outcome) → Before → ℕ → Kind → List Character → List Character → Outcome
+unfoldable pub piece_after : (Before → ℕ → List Character → Outcome) → Before → ℕ → Kind → List Character → List Character → Outcome
 piece_after go before zero kind cs rest = too_long (place_of cs)
-piece_after go before (suc left) kind cs rest = put (own_pieces before (piece kind cs)) [] (go (behind_element before (piece kind cs)) left rest)
+piece_after go before (suc left) kind cs rest = put (own_pieces before (piece kind cs)) [] (go (after_element before (piece kind cs)) left rest)
 
 -- what comes of what was found
-after : (Before → ℕ → List Character → Outcome) → Before → ℕ → Found → Outcome
+unfoldable pub after : (Before → ℕ → List Character → Outcome) → Before → ℕ → Found → Outcome
 after go before limit nothing = lexed [] []
 after go before limit (open_comment place rest) = unclosed_comment place
-after go before limit (found (separator c) rest) = put [] [] (go (behind_element before (separator c)) limit rest)
+after go before limit (found (separator c) rest) = put [] [] (go (after_element before (separator c)) limit rest)
 after go before limit (found (comment mark text end) rest) =
-    put [] (own_comments before (comment mark text end)) (go (behind_element before (comment mark text end)) limit rest)
+    put [] (own_comments before (comment mark text end)) (go (after_element before (comment mark text end)) limit rest)
 after go before limit (found (piece kind cs) rest) = piece_after go before limit kind cs rest
 
 -- the outcome of at most so many elements
-run : ℕ → Before → ℕ → List Character → Outcome
+unfoldable pub run : ℕ → Before → ℕ → List Character → Outcome
 run zero before limit cs = lexed [] []
 run (suc n) before limit cs = after (run n) before limit (element_at before.directive cs)
 
@@ -46,37 +48,37 @@ unfolding run
 run_is n before limit cs f e = ap (after (run n) before limit) e
 
 after_more : (go : Before → ℕ → List Character → Outcome) (before : Before) (limit left : ℕ) (e : Element) (rest : List Character) → count_of e + left ≡ limit
-    → after go before limit (found e rest) ≡ put (own_pieces before e) (own_comments before e) (go (behind_element before e) left rest)
+    → after go before limit (found e rest) ≡ put (own_pieces before e) (own_comments before e) (go (after_element before e) left rest)
 unfolding after piece_after
 after_more go before limit left (separator c) rest n =
-    let m : limit ≡ left = omega arith in ap (λ k. put [] [] (go (behind_element before (separator c)) k rest)) m
+    let m : limit ≡ left = omega arith in ap (λ k. put [] [] (go (after_element before (separator c)) k rest)) m
 after_more go before limit left (comment mark text end) rest n =
     let m : limit ≡ left = omega arith in
-    ap (λ k. put [] (own_comments before (comment mark text end)) (go (behind_element before (comment mark text end)) k rest)) m
+    ap (λ k. put [] (own_comments before (comment mark text end)) (go (after_element before (comment mark text end)) k rest)) m
 after_more go before zero left (piece kind cs) rest n = absurd (omega arith)
 after_more go before (suc k) left (piece kind cs) rest n =
-    let m : k ≡ left = omega arith in ap (λ j. put (own_pieces before (piece kind cs)) [] (go (behind_element before (piece kind cs)) j rest)) m
+    let m : k ≡ left = omega arith in ap (λ j. put (own_pieces before (piece kind cs)) [] (go (after_element before (piece kind cs)) j rest)) m
 
 -- an element that stands in front is found there
-found_here : (before : Before) (e : Element) (rest : List Character) → list_all is_well (spelling e ++ rest) ≡ true → IsElement before e rest → IsFound before (spelling e ++ rest) e rest
-found_here before e rest w h = subst (Is before (spelling e ++ rest)) (element_complete before e rest w h) (element_sound before (spelling e ++ rest) w)
+found_here : (before : Before) (e : Element) (rest : List Character) → list_all is_well (characters_of e ++ rest) ≡ true → IsElement before e rest → IsFound before (characters_of e ++ rest) e rest
+found_here before e rest w h = subst (Is before (characters_of e ++ rest)) (element_complete before e rest w h) (element_sound before (characters_of e ++ rest) w)
 
-some_length : (before : Before) (e : Element) (rest : List Character) → list_all is_well (spelling e ++ rest) ≡ true → IsElement before e rest → length rest < length (spelling e ++ rest)
+some_length : (before : Before) (e : Element) (rest : List Character) → list_all is_well (characters_of e ++ rest) ≡ true → IsElement before e rest → length rest < length (characters_of e ++ rest)
 some_length before e rest w h =
-    let f = found_here before e rest w h in let n = ap length f.some_text.2 in let m = length-append (spelling e) rest in omega (arith, n, m)
+    let f = found_here before e rest w h in let n = ap length f.some_text.2 in let m = length-append (characters_of e) rest in omega (arith, n, m)
 
-abbrev behind_all : Before → List Element → Before
-behind_all before [] = before
-behind_all before (e ∷ es) = behind_all (behind_element before e) es
+abbrev before_all : Before → List Element → Before
+before_all before [] = before
+before_all before (e ∷ es) = before_all (after_element before e) es
 
-run_more : (n : ℕ) (before : Before) (limit left : ℕ) (e : Element) (rest : List Character) → list_all is_well (spelling e ++ rest) ≡ true → IsElement before e rest
-    → length (spelling e ++ rest) ≤ n → count_of e + left ≡ limit
-    → (m : ℕ) × (length rest ≤ m) × (run n before limit (spelling e ++ rest) ≡ put (own_pieces before e) (own_comments before e) (run m (behind_element before e) left rest))
+run_more : (n : ℕ) (before : Before) (limit left : ℕ) (e : Element) (rest : List Character) → list_all is_well (characters_of e ++ rest) ≡ true → IsElement before e rest
+    → length (characters_of e ++ rest) ≤ n → count_of e + left ≡ limit
+    → (m : ℕ) × (length rest ≤ m) × (run n before limit (characters_of e ++ rest) ≡ put (own_pieces before e) (own_comments before e) (run m (after_element before e) left rest))
 run_more zero before limit left e rest w h l n = let k = some_length before e rest w h in absurd (omega arith)
 run_more (suc m) before limit left e rest w h l n = (
   m,
   (let k = some_length before e rest w h in omega arith),
-  run_is m before limit (spelling e ++ rest) (found e rest) (element_complete before e rest w h) ∙ after_more (run m) before limit left e rest n,
+  run_is m before limit (characters_of e ++ rest) (found e rest) (element_complete before e rest w h) ∙ after_more (run m) before limit left e rest n,
 )
 
 put_nothing : (o : Outcome) → put [] [] o ≡ o
@@ -85,19 +87,19 @@ put_nothing (unclosed_comment at) = refl
 put_nothing (too_long at) = refl
 
 run_elements : (es : List Element) (n : ℕ) (before : Before) (limit left : ℕ) (rest : List Character) (o : Outcome) → AreElements before es rest
-    → list_all is_well (spelled es ++ rest) ≡ true → length (spelled es ++ rest) ≤ n → length (pieces_of before es) + left ≡ limit
-    → ((m : ℕ) → length rest ≤ m → run m (behind_all before es) left rest ≡ o) → run n before limit (spelled es ++ rest) ≡ put (pieces_of before es) (comments_of before es) o
+    → list_all is_well (all_characters es ++ rest) ≡ true → length (all_characters es ++ rest) ≤ n → length (pieces_of before es) + left ≡ limit
+    → ((m : ℕ) → length rest ≤ m → run m (before_all before es) left rest ≡ o) → run n before limit (all_characters es ++ rest) ≡ put (pieces_of before es) (comments_of before es) o
 run_elements [] n before limit left rest o a w l k h =
     let m : limit ≡ left = omega arith in ap (λ j. run n before j rest) m ∙ h n l ∙ sym (put_nothing o)
 run_elements (e ∷ es) n before limit left rest o a w l k h =
-    let s = append_assoc (spelling e) (spelled es) rest in
+    let s = append_assoc (characters_of e) (all_characters es) rest in
     let c = count_more before e es in
     let v = subst (λ t. list_all is_well t ≡ true) s w in
-    let r = run_more n before limit (length (pieces_of (behind_element before e) es) + left) e (spelled es ++ rest) v a.0 (subst (λ t. length t ≤ n) s l) (omega arith) in
-    let i = run_elements es r.0 (behind_element before e) (length (pieces_of (behind_element before e) es) + left) left rest o a.1
-    (well_behind (spelling e) (spelled es ++ rest) v) r.1 refl h in
+    let r = run_more n before limit (length (pieces_of (after_element before e) es) + left) e (all_characters es ++ rest) v a.0 (subst (λ t. length t ≤ n) s l) (omega arith) in
+    let i = run_elements es r.0 (after_element before e) (length (pieces_of (after_element before e) es) + left) left rest o a.1
+    (well_behind (characters_of e) (all_characters es ++ rest) v) r.1 refl h in
     ap (run n before limit) s ∙ r.2 ∙ ap (put (own_pieces before e) (own_comments before e)) i
-    ∙ put_twice (own_pieces before e) (pieces_of (behind_element before e) es) (own_comments before e) (comments_of (behind_element before e) es) o
+    ∙ put_twice (own_pieces before e) (pieces_of (after_element before e) es) (own_comments before e) (comments_of (after_element before e) es) o
     ∙ ap₂ (λ ps ks. put ps ks o) (sym (pieces_more before e es)) (sym (comments_more before e es))
 
 run_end : (m : ℕ) (before : Before) (limit : ℕ) → run m before limit [] ≡ lexed [] []
@@ -121,48 +123,48 @@ run_long (suc m) before kind cs rest w h l = run_is m before 0 (cs ++ rest) (fou
 
 -- elements in two parts
 are_split : (before : Before) (es fs : List Element) (rest : List Character) → AreElements before (es ++ fs) rest
-    → AreElements before es (spelled fs ++ rest) × AreElements (behind_all before es) fs rest
+    → AreElements before es (all_characters fs ++ rest) × AreElements (before_all before es) fs rest
 are_split before [] fs rest a = (tt, a)
 are_split before (e ∷ es) fs rest a =
-    let h = are_split (behind_element before e) es fs rest a.1 in
-    ((subst (IsElement before e) (ap (λ t. t ++ rest) (spelled_both es fs) ∙ append_assoc (spelled es) (spelled fs) rest) a.0, h.0), h.1)
+    let h = are_split (after_element before e) es fs rest a.1 in
+    ((subst (IsElement before e) (ap (λ t. t ++ rest) (spelled_both es fs) ∙ append_assoc (all_characters es) (all_characters fs) rest) a.0, h.0), h.1)
   where
-    spelled_both : (es fs : List Element) → spelled (es ++ fs) ≡ spelled es ++ spelled fs
+    spelled_both : (es fs : List Element) → all_characters (es ++ fs) ≡ all_characters es ++ all_characters fs
     spelled_both [] fs = refl
-    spelled_both (e ∷ es) fs = ap (λ t. spelling e ++ t) (spelled_both es fs) ∙ sym (append_assoc (spelling e) (spelled es) (spelled fs))
+    spelled_both (e ∷ es) fs = ap (λ t. characters_of e ++ t) (spelled_both es fs) ∙ sym (append_assoc (characters_of e) (all_characters es) (all_characters fs))
 
-spelled_two : (es fs : List Element) → spelled (es ++ fs) ≡ spelled es ++ spelled fs
+spelled_two : (es fs : List Element) → all_characters (es ++ fs) ≡ all_characters es ++ all_characters fs
 spelled_two [] fs = refl
-spelled_two (e ∷ es) fs = ap (λ t. spelling e ++ t) (spelled_two es fs) ∙ sym (append_assoc (spelling e) (spelled es) (spelled fs))
+spelled_two (e ∷ es) fs = ap (λ t. characters_of e ++ t) (spelled_two es fs) ∙ sym (append_assoc (characters_of e) (all_characters es) (all_characters fs))
 
-outcome_at : ℕ → ℕ → List ℕ → Outcome
+unfoldable pub outcome_at : ℕ → ℕ → List ℕ → Outcome
 outcome_at file limit text = run (length (file_characters file text)) at_start limit (file_characters file text)
 
 -- whatever outcome a text has, it is the computed one
-lexes_run : (file limit : ℕ) (text : List ℕ) (o : Outcome) → Lexes file limit text o → outcome_at file limit text ≡ o
+pub lexes_run : (file limit : ℕ) (text : List ℕ) (o : Outcome) → Lexes file limit text o → outcome_at file limit text ≡ o
 unfolding outcome_at
 lexes_run file limit text o (lexing.whole es e a n) =
-    let w = well_characters text 0 (file_start file) in
-    let f : file_characters file text ≡ spelled es ++ [] = e ∙ sym (append-nil (spelled es)) in
+    let w = well_characters text (file_start file) in
+    let f : file_characters file text ≡ all_characters es ++ [] = e ∙ sym (append-nil (all_characters es)) in
     ap (run (length (file_characters file text)) at_start limit) f
     ∙ run_elements es (length (file_characters file text)) at_start limit (limit - length (pieces_of at_start es)) [] (lexed [] []) a
-    (subst (λ t. list_all is_well t ≡ true) f w) (let g = ap length f in omega arith) (omega arith) (λ m _. run_end m (behind_all at_start es) (limit - length (pieces_of at_start es)))
+    (subst (λ t. list_all is_well t ≡ true) f w) (let g = ap length f in omega arith) (omega arith) (λ m _. run_end m (before_all at_start es) (limit - length (pieces_of at_start es)))
     ∙ ap₂ lexed (append-nil (pieces_of at_start es)) (append-nil (comments_of at_start es))
 lexes_run file limit text o (lexing.open_comment es rest inner e a n b h) =
-    let w = subst (λ t. list_all is_well t ≡ true) e (well_characters text 0 (file_start file)) in
+    let w = subst (λ t. list_all is_well t ≡ true) e (well_characters text (file_start file)) in
     ap (run (length (file_characters file text)) at_start limit) e
     ∙ run_elements es (length (file_characters file text)) at_start limit (limit - length (pieces_of at_start es)) rest (unclosed_comment (place_of rest)) a w
     (let g = ap length e in omega arith) (omega arith)
-    (λ m l. run_open m (behind_all at_start es) (limit - length (pieces_of at_start es)) rest inner (well_behind (spelled es) rest w) b h l)
+    (λ m l. run_open m (before_all at_start es) (limit - length (pieces_of at_start es)) rest inner (well_behind (all_characters es) rest w) b h l)
 lexes_run file limit text o (lexing.piece_more es kind cs rest e a n) =
     let s = are_split at_start es (piece kind cs ∷ []) rest a in
-    let f : file_characters file text ≡ spelled es ++ (cs ++ rest) =
-    e ∙ ap (λ t. t ++ rest) (spelled_two es (piece kind cs ∷ [])) ∙ append_assoc (spelled es) (cs ++ []) rest ∙ ap (λ t. spelled es ++ (t ++ rest)) (append-nil cs) in
-    let w = subst (λ t. list_all is_well t ≡ true) f (well_characters text 0 (file_start file)) in
+    let f : file_characters file text ≡ all_characters es ++ (cs ++ rest) =
+    e ∙ ap (λ t. t ++ rest) (spelled_two es (piece kind cs ∷ [])) ∙ append_assoc (all_characters es) (cs ++ []) rest ∙ ap (λ t. all_characters es ++ (t ++ rest)) (append-nil cs) in
+    let w = subst (λ t. list_all is_well t ≡ true) f (well_characters text (file_start file)) in
     ap (run (length (file_characters file text)) at_start limit) f
     ∙ run_elements es (length (file_characters file text)) at_start limit 0 (cs ++ rest) (too_long (place_of cs))
     (subst (λ t. AreElements at_start es (t ++ rest)) (append-nil cs) s.0) w (let g = ap length f in omega arith) (omega arith)
-    (λ m l. run_long m (behind_all at_start es) kind cs rest (well_behind (spelled es) (cs ++ rest) w) s.1.0 l)
+    (λ m l. run_long m (before_all at_start es) kind cs rest (well_behind (all_characters es) (cs ++ rest) w) s.1.0 l)
 
 pub one_outcome_of : (file limit : ℕ) (text : List ℕ) (some other : Outcome) → Lexes file limit text some → Lexes file limit text other → some ≡ other
 one_outcome_of file limit text some other a b = sym (lexes_run file limit text some a) ∙ lexes_run file limit text other b
@@ -171,10 +173,10 @@ one_outcome_of file limit text some other a b = sym (lexes_run file limit text s
 
 shorter : (before : Before) (cs : List Character) (e : Element) (rest : List Character) → IsFound before cs e rest → length rest < length cs
 shorter before cs e rest f =
-    let n = ap length f.whole_text ∙ length-append (spelling e) rest in let m = ap length f.some_text.2 in omega (arith, n, m)
+    let n = ap length f.whole_text ∙ length-append (characters_of e) rest in let m = ap length f.some_text.2 in omega (arith, n, m)
 
 well_rest : (before : Before) (cs : List Character) (e : Element) (rest : List Character) → IsFound before cs e rest → list_all is_well cs ≡ true → list_all is_well rest ≡ true
-well_rest before cs e rest f w = well_behind (spelling e) rest (subst (λ t. list_all is_well t ≡ true) f.whole_text w)
+well_rest before cs e rest f w = well_behind (characters_of e) rest (subst (λ t. list_all is_well t ≡ true) f.whole_text w)
 
 run_found : (n : ℕ) (before : Before) (limit : ℕ) (cs : List Character) (f : Found) → Is before cs f → list_all is_well cs ≡ true → length cs ≤ suc n
     → ((b : Before) (k : ℕ) (rest : List Character) → list_all is_well rest ≡ true → length rest ≤ n → Goes b k rest (run n b k rest))
@@ -187,19 +189,19 @@ run_found n before zero cs (found (piece kind xs) rest) h w l more =
     subst (λ t. Goes before 0 t (too_long (place_of xs))) (sym h.whole_text) (goes_long before kind xs rest h.is_element)
 run_found n before (suc left) cs (found (piece kind xs) rest) h w l more =
     let k = shorter before cs (piece kind xs) rest h in
-    subst (λ t. Goes before (suc left) t (put (own_pieces before (piece kind xs)) [] (run n (behind_element before (piece kind xs)) left rest))) (sym h.whole_text)
+    subst (λ t. Goes before (suc left) t (put (own_pieces before (piece kind xs)) [] (run n (after_element before (piece kind xs)) left rest))) (sym h.whole_text)
     (goes_more before (suc left) left (piece kind xs) rest _ h.is_element (omega arith)
-    (more (behind_element before (piece kind xs)) left rest (well_rest before cs (piece kind xs) rest h w) (omega arith)))
+    (more (after_element before (piece kind xs)) left rest (well_rest before cs (piece kind xs) rest h w) (omega arith)))
 run_found n before limit cs (found (separator c) rest) h w l more =
     let k = shorter before cs (separator c) rest h in
-    subst (λ t. Goes before limit t (put [] [] (run n (behind_element before (separator c)) limit rest))) (sym h.whole_text)
+    subst (λ t. Goes before limit t (put [] [] (run n (after_element before (separator c)) limit rest))) (sym h.whole_text)
     (goes_more before limit limit (separator c) rest _ h.is_element (omega arith)
-    (more (behind_element before (separator c)) limit rest (well_rest before cs (separator c) rest h w) (omega arith)))
+    (more (after_element before (separator c)) limit rest (well_rest before cs (separator c) rest h w) (omega arith)))
 run_found n before limit cs (found (comment mark text end) rest) h w l more =
     let k = shorter before cs (comment mark text end) rest h in
-    subst (λ t. Goes before limit t (put [] (own_comments before (comment mark text end)) (run n (behind_element before (comment mark text end)) limit rest))) (sym h.whole_text)
+    subst (λ t. Goes before limit t (put [] (own_comments before (comment mark text end)) (run n (after_element before (comment mark text end)) limit rest))) (sym h.whole_text)
     (goes_more before limit limit (comment mark text end) rest _ h.is_element (omega arith)
-    (more (behind_element before (comment mark text end)) limit rest (well_rest before cs (comment mark text end) rest h w) (omega arith)))
+    (more (after_element before (comment mark text end)) limit rest (well_rest before cs (comment mark text end) rest h w) (omega arith)))
 
 run_sound : (n : ℕ) (before : Before) (limit : ℕ) (cs : List Character) → list_all is_well cs ≡ true → length cs ≤ n → Goes before limit cs (run n before limit cs)
 unfolding run
@@ -213,53 +215,67 @@ unfolding outcome_at
 some_outcome_of file limit text = (
   outcome_at file limit text,
   lexes_goes file limit text (outcome_at file limit text)
-      (run_sound (length (file_characters file text)) at_start limit (file_characters file text) (well_characters text 0 (file_start file)) (omega arith)),
+      (run_sound (length (file_characters file text)) at_start limit (file_characters file text) (well_characters text (file_start file)) (omega arith)),
 )
 
 -- the elements are the text
 
-bytes_kept : (text : List ℕ) (deleted : ℕ) (at : Place) → bytes_of (characters deleted at text) ≡ without_deleted deleted text
-unfolding characters without_deleted
-bytes_kept [] deleted at = refl
-bytes_kept (b ∷ bs) (suc n) at = bytes_kept bs n at
-bytes_kept (b ∷ bs) zero at =
-    either ((b == 92) && nat_lt 0 (newline_size bs)) _ _ _ _ (bytes_kept bs (newline_size bs) (next_line at))
-    (ap (λ l. b ∷ l) (bytes_kept bs zero (cond (b == 10) (next_line at) (next_column at))))
-  where
-    either : (t : Bool) (x y : List Character) (v w : List ℕ) → bytes_of x ≡ v → bytes_of y ≡ w → bytes_of (cond t x y) ≡ cond t v w
-    either true x y v w e f = e
-    either false x y v w e f = f
+either_kept : (t : Bool) (x y : List Character) (v w : List ℕ) → bytes_of x ≡ v → bytes_of y ≡ w → bytes_of (cond t x y) ≡ cond t v w
+either_kept true x y v w e f = e
+either_kept false x y v w e f = f
 
-bytes_spelled : (es : List Element) → bytes_of (spelled es) ≡ flat_map (λ e. bytes_of (spelling e)) es
+mutual
+  unfolding characters without_deleted
+
+  bytes_kept : (text : List ℕ) (at : Place) → bytes_of (characters at text) ≡ without_deleted text
+  bytes_kept [] at = refl
+  bytes_kept (b ∷ bs) at =
+      either_kept ((b == 92) && begins_with_newline bs) _ _ _ _ (rest_kept bs (next_line at))
+      (ap (λ l. b ∷ l) (bytes_kept bs (place_after at b)))
+
+  rest_kept : (text : List ℕ) (at : Place) → bytes_of (characters_after_newline at text) ≡ without_newline text
+  rest_kept [] at = refl
+  rest_kept (b ∷ bs) at = either_kept (b == 10) _ _ _ _ (bytes_kept bs at) (rest_kept bs at)
+
+bytes_spelled : (es : List Element) → bytes_of (all_characters es) ≡ flat_map (λ e. bytes_of (characters_of e)) es
 bytes_spelled [] = refl
-bytes_spelled (e ∷ es) = bytes_append (spelling e) (spelled es) ∙ ap (λ l. bytes_of (spelling e) ++ l) (bytes_spelled es)
+bytes_spelled (e ∷ es) = bytes_append (characters_of e) (all_characters es) ∙ ap (λ l. bytes_of (characters_of e) ++ l) (bytes_spelled es)
 
 pieces_texts : (before : Before) (es : List Element) → map (λ (p : Piece). p.token.text) (pieces_of before es) ≡ piece_texts es
 pieces_texts before [] = refl
-pieces_texts before (separator c ∷ es) = pieces_texts (behind_element before (separator c)) es
-pieces_texts before (comment mark text end ∷ es) = pieces_texts (behind_element before (comment mark text end)) es
-pieces_texts before (piece kind cs ∷ es) = ap (λ l. piece_text kind (bytes_of cs) ∷ l) (pieces_texts (behind_element before (piece kind cs)) es)
+pieces_texts before (separator c ∷ es) = pieces_texts (after_element before (separator c)) es
+pieces_texts before (comment mark text end ∷ es) = pieces_texts (after_element before (comment mark text end)) es
+pieces_texts before (piece kind cs ∷ es) = ap (λ l. plain_text kind (bytes_of cs) ∷ l) (pieces_texts (after_element before (piece kind cs)) es)
 
 comments_texts : (before : Before) (es : List Element) → map (λ (k : Comment). k.text) (comments_of before es) ≡ comment_texts es
 comments_texts before [] = refl
-comments_texts before (separator c ∷ es) = comments_texts (behind_element before (separator c)) es
-comments_texts before (piece kind cs ∷ es) = comments_texts (behind_element before (piece kind cs)) es
-comments_texts before (comment mark text end ∷ es) = ap (λ l. bytes_of text ∷ l) (comments_texts (behind_element before (comment mark text end)) es)
+comments_texts before (separator c ∷ es) = comments_texts (after_element before (separator c)) es
+comments_texts before (piece kind cs ∷ es) = comments_texts (after_element before (piece kind cs)) es
+comments_texts before (comment mark text end ∷ es) = ap (λ l. bytes_of text ∷ l) (comments_texts (after_element before (comment mark text end)) es)
 
-abbrev MadeOf : List ℕ → Outcome → Type 0
-MadeOf text (lexed ps ks) = IsMadeOf text ps ks
-MadeOf text _ = Unit {0}
+pieces_spellings : (before : Before) (es : List Element) → map (λ (p : Piece). spelling_of p.token) (pieces_of before es) ≡ piece_spellings es
+pieces_spellings before [] = refl
+pieces_spellings before (separator c ∷ es) = pieces_spellings (after_element before (separator c)) es
+pieces_spellings before (comment mark text end ∷ es) = pieces_spellings (after_element before (comment mark text end)) es
+pieces_spellings before (piece kind cs ∷ es) =
+    ap₂ (λ s l. s ∷ l) (spelling_kept (piece_of before kind cs).token (bytes_of cs) refl refl) (pieces_spellings (after_element before (piece kind cs)) es)
 
-made_of : (file limit : ℕ) (text : List ℕ) (o : Outcome) → Lexes file limit text o → MadeOf text o
+abbrev MadeOf : ℕ → List ℕ → Outcome → Type 0
+MadeOf file text (lexed ps ks) = ConsistsOf file text ps ks
+MadeOf file text _ = Unit {0}
+
+made_of : (file limit : ℕ) (text : List ℕ) (o : Outcome) → Lexes file limit text o → MadeOf file text o
 made_of file limit text o (lexing.whole es e a n) = record {
   elements = es;
   are_elements = a;
-  whole = sym (bytes_spelled es) ∙ sym (ap bytes_of e) ∙ bytes_kept text 0 (file_start file);
-  pieces_are = pieces_texts at_start es;
+  characters = e;
+  bytes = sym (bytes_spelled es) ∙ sym (ap bytes_of e) ∙ bytes_kept text (file_start file);
+  texts = pieces_texts at_start es;
+  spellings = pieces_spellings at_start es;
   comments_are = comments_texts at_start es;
 }
 made_of file limit text o (lexing.open_comment es rest inner e a n b h) = tt
 made_of file limit text o (lexing.piece_more es kind cs rest e a n) = tt
 
-pub elements_of : (file limit : ℕ) (text : List ℕ) (ps : List Piece) (ks : List Comment) → Lexes file limit text (lexed ps ks) → IsMadeOf text ps ks
+pub elements_of : (file limit : ℕ) (text : List ℕ) (ps : List Piece) (ks : List Comment) → Lexes file limit text (lexed ps ks) → ConsistsOf file text ps ks
 elements_of file limit text ps ks h = made_of file limit text (lexed ps ks) h

@@ -1,36 +1,28 @@
--- The text of a punctuator's piece.
-use Rattle.std.proofs.Common.{◌≡◌, ℕ, List, [], ◌∷◌, Bool, true, false, cond, Some, Option, refl, ap, ◌∙◌, codes, bytes_eq}
-use Rattle.std.specs.List.{find}
-use Rattle.cx_tokens.specs.declared.token.Kind.TheVariants.{Punct}
-use Rattle.cx_lex.specs.Elements.{piece_text, second_or}
+-- A piece that is no digraph has its spelling as its text.
+use Rattle.std.proofs.Common.{◌≡◌, ℕ, List, [], ◌∷◌, Some, Bool, true, false, ◌&&◌, ◌||◌, cond, refl}
+use Rattle.std.specs.Prelude.{bytes_eq}
+use Rattle.std.specs.List.{find, list_any}
+use Rattle.std.specs.Option.{option_map_or}
+use Rattle.cx_tokens.specs.declared.token.Kind.{Kind}
+use Rattle.cx_tokens.specs.Brackets.{is_punct}
+use Rattle.cx_tokens.specs.Digraphs.{digraphs, is_digraph, plain_text}
 
-abbrev Pair : Type 0
-Pair = List ℕ × List ℕ
+none_found : (table : List (List ℕ × List ℕ)) (text : List ℕ) → list_any (λ pair. bytes_eq pair.0 text) table ≡ false
+    → option_map_or (λ pair. pair.1) (find (λ pair. bytes_eq pair.0 text) table) text ≡ text
+none_found [] text h = refl
+none_found (pair ∷ rest) text h =
+    elim (bytes_eq pair.0 text)
+    as (λ b. (b || list_any (λ p. bytes_eq p.0 text) rest) ≡ false
+    → option_map_or (λ p. p.1) (cond b (Some pair) (find (λ p. bytes_eq p.0 text) rest)) text ≡ text) [
+      | true ↦ λ e. absurd cc
+      | false ↦ λ e. none_found rest text e
+    ] h
 
-abbrev plain_in : List Pair → List ℕ → List ℕ
-plain_in pairs w = second_or (find (λ pair. bytes_eq pair.0 w) pairs) w
+by_kind : (punct digraph : Bool) (plain text : List ℕ) → (punct && digraph) ≡ false → (digraph ≡ false → plain ≡ text) → cond punct plain text ≡ text
+by_kind true digraph plain text h e = e h
+by_kind false digraph plain text h e = refl
 
-second_step : (b : Bool) (pair : Pair) (more : Option Pair) (text : List ℕ)
-    → second_or (cond b (Some pair) more) text ≡ cond b pair.1 (second_or more text)
-second_step true pair more text = refl
-second_step false pair more text = refl
-
-step : (w : List ℕ) (pair : Pair) (pairs : List Pair) → plain_in (pair ∷ pairs) w ≡ cond (bytes_eq pair.0 w) pair.1 (plain_in pairs w)
-step w pair pairs = second_step (bytes_eq pair.0 w) pair (find (λ pair. bytes_eq pair.0 w) pairs) w
-
-chain : (w : List ℕ) (a b c d e f : Pair) → plain_in (a ∷ b ∷ c ∷ d ∷ e ∷ f ∷ []) w
-    ≡ cond (bytes_eq a.0 w) a.1 (cond (bytes_eq b.0 w) b.1 (cond (bytes_eq c.0 w) c.1 (cond (bytes_eq d.0 w) d.1 (cond (bytes_eq e.0 w) e.1 (cond (bytes_eq f.0 w) f.1 w)))))
-chain w a b c d e f =
-    step w a (b ∷ c ∷ d ∷ e ∷ f ∷ []) ∙ ap (cond (bytes_eq a.0 w) a.1)
-    (step w b (c ∷ d ∷ e ∷ f ∷ []) ∙ ap (cond (bytes_eq b.0 w) b.1)
-    (step w c (d ∷ e ∷ f ∷ []) ∙ ap (cond (bytes_eq c.0 w) c.1)
-    (step w d (e ∷ f ∷ []) ∙ ap (cond (bytes_eq d.0 w) d.1)
-    (step w e (f ∷ []) ∙ ap (cond (bytes_eq e.0 w) e.1)
-    (step w f [])))))
-
-pub plain_is : (w : List ℕ)
-    → piece_text Punct w ≡ cond (bytes_eq (codes "<:") w) (codes "[") (cond (bytes_eq (codes ":>") w) (codes "]")
-    (cond (bytes_eq (codes "<%") w) (codes "{") (cond (bytes_eq (codes "%>") w) (codes "}")
-    (cond (bytes_eq (codes "%:") w) (codes "#") (cond (bytes_eq (codes "%:%:") w) (codes "##") w)))))
-unfolding piece_text
-plain_is w = chain w (codes "<:", codes "[") (codes ":>", codes "]") (codes "<%", codes "{") (codes "%>", codes "}") (codes "%:", codes "#") (codes "%:%:", codes "##")
+pub plain_is_spelling : (kind : Kind) (text : List ℕ) → is_digraph kind text ≡ false → plain_text kind text ≡ text
+unfolding plain_text is_digraph
+plain_is_spelling kind text h =
+    by_kind (is_punct kind) (list_any (λ pair. bytes_eq pair.0 text) digraphs) _ text h (λ e. none_found digraphs text e)

@@ -5,23 +5,13 @@ use Rattle.std.proofs.lemmas.Bool.Decides.{nat_tests}
 use Rattle.cx_lex.specs.declared.character.Character.{Character}
 use Rattle.cx_lex.specs.declared.scan.Scan.{Scan}
 use Rattle.cx_lex.specs.declared.scan.Scan.TheVariants.{InQuotes, InHeader, Closed}
-use Rattle.cx_lex.specs.Elements.{EndsLine, lacks, on_one_line, within_quotes}
+use Rattle.cx_lex.specs.Elements.{EndsLine, lacks, on_one_line}
+use Rattle.cx_lex.specs.Shapes.Quotes.{within_quotes}
 use Rattle.cx_lex.specs.Lines.{bytes_of}
-use Rattle.cx_lex.specs.Scanning.{quoted_step, step_of}
+use Rattle.cx_lex.specs.Shapes.Scanning.{quoted_step, step_of}
+use Rattle.cx_lex.proofs.MemberLaws.{within_end, within_more, within_paired}
 use Rattle.cx_lex.proofs.Runs.{Runs, Stops, not_false, runs_closed}
 use Rattle.cx_lex.proofs.Steps.{header_step, kept_false, kept_none, kept_some, kept_true, quotes_step}
-
-within_end : (q : ℕ) (p : Bool) → within_quotes q p [] ≡ Some p
-unfolding within_quotes
-within_end q p = refl
-
-within_paired : (q b : ℕ) (bs : List ℕ) → within_quotes q true (b ∷ bs) ≡ within_quotes q false bs
-unfolding within_quotes
-within_paired q b bs = refl
-
-within_more : (q b : ℕ) (bs : List ℕ) → within_quotes q false (b ∷ bs) ≡ cond (b == q) None (within_quotes q (b == 92) bs)
-unfolding within_quotes
-within_more q b bs = refl
 
 step_paired : (q b : ℕ) → quoted_step q true b ≡ InQuotes q false
 unfolding quoted_step
@@ -42,7 +32,7 @@ pub record QuotesEnd (q : ℕ) (p : Bool) (xs : List Character) : Type 0 where
   pub parts : EndsWith q xs
   pub within : within_quotes q p (bytes_of parts.inner) ≡ Some false
 
--- what stands behind a quote was read up to its end, or is open
+-- what stands after a quote was read up to its end, or is open
 abbrev pub QuotesRead : ℕ → Bool → List Character → Scan → Type 0
 QuotesRead q p xs t =
     (on_one_line xs ≡ true)

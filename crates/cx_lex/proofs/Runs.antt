@@ -9,7 +9,7 @@ use Rattle.cx_lex.specs.Characters.{is_word}
 use Rattle.cx_lex.specs.Elements.{EndsLine, on_one_line}
 use Rattle.cx_lex.specs.Forms.{GoesOn, goes_on}
 use Rattle.cx_lex.specs.Lines.{bytes_of}
-use Rattle.cx_lex.specs.Scanning.{Scanned, and_before, scanned, step_of}
+use Rattle.cx_lex.specs.Shapes.Scanning.{Scanned, and_before, scanned, step_of}
 use Rattle.cx_lex.proofs.Scans.{scanned_end, scanned_more, scanned_stop}
 use Rattle.cx_lex.proofs.Steps.{closed_step, kept_false, kept_none, kept_some, kept_true, line_step, name_step, number_step}
 

@@ -3,7 +3,7 @@ use Rattle.std.proofs.Common.{◌≡◌, ℕ, List, [], ◌∷◌, ◌++◌, Som
 use Rattle.cx_lex.specs.declared.character.Character.{Character}
 use Rattle.cx_lex.specs.declared.scan.Scan.{Scan}
 use Rattle.cx_lex.specs.Lines.{bytes_of}
-use Rattle.cx_lex.specs.Scanning.{Scanned, and_before, scanned, step_of}
+use Rattle.cx_lex.specs.Shapes.Scanning.{Scanned, and_before, scanned, step_of}
 
 pub scanned_end : (scan : Scan) → scanned scan [] ≡ record { taken = []; end = scan; rest = [] }
 unfolding scanned

@@ -10,9 +10,11 @@ use Rattle.cx_lex.specs.declared.spot.Spot.{Spot}
 use Rattle.cx_tokens.specs.declared.token.Kind.{Kind}
 use Rattle.cx_tokens.specs.declared.token.Kind.TheVariants.{Punct}
 use Rattle.cx_lex.specs.declared.piece.Piece.{Piece}
-use Rattle.cx_lex.specs.Characters.{is_blank, is_digit, is_mark, is_newline, is_nondigit, in_alphabet, is_word}
-use Rattle.cx_lex.specs.Cut.{closed, cut, extended, is_pair, joined, joins, kind_of, mark_of, next, one_piece, piece_of}
-use Rattle.cx_lex.specs.Pieces.{BeginsWith, FirstPieces, Pieces, behind, start}
+use Rattle.cx_lex.specs.FirstPieces.{is_blank, is_mark, is_newline, in_alphabet}
+use Rattle.cx_lex.specs.Characters.{is_digit, is_nondigit, is_word}
+use Rattle.cx_lex.specs.Shapes.FirstCut.{closed, cut, extended, is_pair, joined, joins, kind_of, mark_of, next, one_piece, piece_of}
+use Rattle.cx_lex.specs.Elements.{BeginsWith}
+use Rattle.cx_lex.specs.FirstPieces.{FirstPieces, Pieces, behind, start}
 use Rattle.cx_lex.proofs.CutLaws.{Plain, behind_more, closed_between, closed_word, mark_blank, mark_some, next_solid, or_false}
 use Rattle.cx_lex.proofs.FormLaws.{Stops, all_both, joins_is, mark_longest, mark_not_blank, mark_punctuator, token_solid, word_form, word_longest, word_not_blank}
 use Rattle.cx_lex.proofs.Going.{cut_end, cut_other, cut_word}
@@ -68,6 +70,7 @@ word_front begins c cs rest kind ps a k s r =
         place = refl;
         hide = refl;
         parts = refl;
+        digraph = refl;
         space = sym (or_false begins.space);
         first_on_line = sym (or_false begins.first_on_line);
       },
@@ -89,6 +92,7 @@ mark_front spot b rest ps m j r = (
     place = refl;
     hide = refl;
     parts = refl;
+    digraph = refl;
     space = sym (or_false spot.space);
     first_on_line = sym (or_false spot.first_on_line);
   },
@@ -120,6 +124,7 @@ blank_front spot b rest (p ∷ ps) h r = (
     place = r.2.place;
     hide = r.2.hide;
     parts = r.2.parts;
+    digraph = r.2.digraph;
     space = space_on p.token.space spot.space (is_blank b) (list_any is_blank r.0) h r.2.space;
     first_on_line = first_on p.first_on_line spot.first_on_line (is_blank b) (is_newline b) (list_any is_newline r.0) h r.2.first_on_line;
   },

@@ -6,7 +6,7 @@ use Rattle.cx_lex.specs.declared.scan.Scan.{Scan}
 use Rattle.cx_lex.specs.declared.scan.Scan.TheVariants.{InName, InNumber, InQuotes, InHeader, InLineComment, InBlockComment, Closed}
 use Rattle.cx_lex.specs.Characters.{is_word}
 use Rattle.cx_lex.specs.Forms.{goes_on}
-use Rattle.cx_lex.specs.Scanning.{kept_if, quoted_step, scanned, step_of}
+use Rattle.cx_lex.specs.Shapes.Scanning.{kept_if, quoted_step, scanned, step_of}
 use Rattle.cx_lex.proofs.Scans.{scanned_end, scanned_stop}
 
 pub kept_true : (k : Bool) (s : Scan) → k ≡ true → kept_if k s ≡ Some s

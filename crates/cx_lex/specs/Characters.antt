@@ -1,4 +1,4 @@
--- Characters of a source, by their codes.
+-- Classes of characters of a source (C11 5.2.1), by their codes.
 use Rattle.std.specs.Prelude.{ℕ, List, Bool, ◌&&◌, ◌||◌, ◌==◌, nat_le, codes}
 use Rattle.std.specs.List.{list_any}
 
@@ -12,24 +12,9 @@ is_digit b = nat_le 48 b && nat_le b 57
 
 -- a nondigit: a letter, `A` (65) to `Z` (90) or `a` (97) to `z` (122), or `_` (C11 6.4.2.1)
 unfoldable pub is_nondigit : ℕ → Bool
-is_nondigit b = ((nat_le 65 b && nat_le b 90) || (nat_le 97 b && nat_le b 122)) || is_one_of (codes "_") b
+is_nondigit b =
+    ((nat_le 65 b && nat_le b 90) || (nat_le 97 b && nat_le b 122)) || is_one_of (codes "_") b
 
--- what an identifier has behind its first character (C11 6.4.2.1)
+-- what an identifier has after its first character (C11 6.4.2.1)
 unfoldable pub is_word : ℕ → Bool
 is_word b = is_nondigit b || is_digit b
-
--- a newline (10), the end of a line (C11 5.1.1.2)
-unfoldable pub is_newline : ℕ → Bool
-is_newline b = b == 10
-
--- white space of this language: a space (32), a tab (9) or a newline (C11 6.4, paragraph 3)
-unfoldable pub is_blank : ℕ → Bool
-is_blank b = ((b == 32) || (b == 9)) || is_newline b
-
--- the characters of this language's punctuators
-unfoldable pub is_mark : ℕ → Bool
-is_mark b = is_one_of (codes "(){};,=+-*/") b
-
--- the characters that a text of this language has
-unfoldable pub in_alphabet : ℕ → Bool
-in_alphabet b = (is_word b || is_blank b) || is_mark b

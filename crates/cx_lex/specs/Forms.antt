@@ -1,5 +1,5 @@
--- The forms of preprocessing tokens, and those that the language permits.
-use Rattle.std.specs.Prelude.{◌≡◌, ℕ, ◌+◌, ◌-◌, ◌*◌, ◌≤◌, List, [], ◌∷◌, ◌++◌, Bool, true, ◌&&◌, ◌||◌, ◌⊎◌, length, fold, Contains, codes}
+-- The forms of identifiers, preprocessing numbers and punctuators (C11 6.4).
+use Rattle.std.specs.Prelude.{◌≡◌, ℕ, List, [], ◌∷◌, ◌++◌, Bool, true, ◌&&◌, ◌||◌, ◌⊎◌, Contains, codes}
 use Rattle.std.specs.List.{list_all}
 use Rattle.cx_tokens.specs.declared.token.Kind.{Kind}
 use Rattle.cx_tokens.specs.declared.token.Kind.TheVariants.{Name, Number, Punct}
@@ -10,34 +10,39 @@ abbrev pub IsIdentifier : List ℕ → Type 0
 IsIdentifier [] = ⊥
 IsIdentifier (b ∷ bs) = (is_nondigit b ≡ true) × (list_all is_word bs ≡ true)
 
--- whether a preprocessing number goes on with b behind its character `last` (C11 6.4.8)
+-- whether a preprocessing number whose last character is `last` may have b after it: a digit, a
+-- nondigit or `.`, or a sign after `e`, `E`, `p` or `P` (C11 6.4.8)
 unfoldable pub goes_on : ℕ → ℕ → Bool
-goes_on last b = (is_word b || is_one_of (codes ".") b) || (is_one_of (codes "eEpP") last && is_one_of (codes "+-") b)
+goes_on last b =
+    (is_word b || is_one_of (codes ".") b)
+    || (is_one_of (codes "eEpP") last && is_one_of (codes "+-") b)
 
--- a preprocessing number goes on with these characters behind its character `last` (C11 6.4.8)
+-- a preprocessing number whose last character is `last` may have these characters after it (C11
+-- 6.4.8)
 abbrev pub GoesOn : ℕ → List ℕ → Type 0
 GoesOn last [] = Unit {0}
 GoesOn last (b ∷ bs) = (goes_on last b ≡ true) × GoesOn b bs
 
--- a digit, and what goes on behind it
+-- a digit, and what may come after it
 abbrev pub BeginsWithDigit : List ℕ → Type 0
 BeginsWithDigit [] = ⊥
 BeginsWithDigit (b ∷ bs) = (is_digit b ≡ true) × GoesOn b bs
 
--- a preprocessing number: a digit or `.` with a digit, and what goes on behind it (C11 6.4.8)
+-- a preprocessing number: a digit or `.` with a digit, and what may come after it (C11 6.4.8)
 abbrev pub IsPpNumber : List ℕ → Type 0
-IsPpNumber text = BeginsWithDigit text ⊎ ((rest : List ℕ) × (text ≡ codes "." ++ rest) × BeginsWithDigit rest)
+IsPpNumber text =
+    BeginsWithDigit text ⊎ ((rest : List ℕ) × (text ≡ codes "." ++ rest) × BeginsWithDigit rest)
 
 -- the punctuators (C11 6.4.6)
 unfoldable pub punctuators : List (List ℕ)
 punctuators =
     codes "[" ∷ codes "]" ∷ codes "(" ∷ codes ")" ∷ codes "{" ∷ codes "}" ∷ codes "." ∷ codes "->"
-    ∷ codes "++" ∷ codes "--" ∷ codes "&" ∷ codes "*" ∷ codes "+" ∷ codes "-" ∷ codes "~" ∷ codes "!"
-    ∷ codes "/" ∷ codes "%" ∷ codes "<<" ∷ codes ">>" ∷ codes "<" ∷ codes ">" ∷ codes "<=" ∷ codes ">="
-    ∷ codes "==" ∷ codes "!=" ∷ codes "^" ∷ codes "|" ∷ codes "&&" ∷ codes "||"
-    ∷ codes "?" ∷ codes ":" ∷ codes ";" ∷ codes "..."
-    ∷ codes "=" ∷ codes "*=" ∷ codes "/=" ∷ codes "%=" ∷ codes "+=" ∷ codes "-=" ∷ codes "<<=" ∷ codes ">>="
-    ∷ codes "&=" ∷ codes "^=" ∷ codes "|=" ∷ codes "," ∷ codes "#" ∷ codes "##"
+    ∷ codes "++" ∷ codes "--" ∷ codes "&" ∷ codes "*" ∷ codes "+" ∷ codes "-" ∷ codes "~"
+    ∷ codes "!" ∷ codes "/" ∷ codes "%" ∷ codes "<<" ∷ codes ">>" ∷ codes "<" ∷ codes ">"
+    ∷ codes "<=" ∷ codes ">=" ∷ codes "==" ∷ codes "!=" ∷ codes "^" ∷ codes "|" ∷ codes "&&"
+    ∷ codes "||" ∷ codes "?" ∷ codes ":" ∷ codes ";" ∷ codes "..."
+    ∷ codes "=" ∷ codes "*=" ∷ codes "/=" ∷ codes "%=" ∷ codes "+=" ∷ codes "-=" ∷ codes "<<="
+    ∷ codes ">>=" ∷ codes "&=" ∷ codes "^=" ∷ codes "|=" ∷ codes "," ∷ codes "#" ∷ codes "##"
     ∷ codes "<:" ∷ codes ":>" ∷ codes "<%" ∷ codes "%>" ∷ codes "%:" ∷ codes "%:%:" ∷ []
 
 -- what could constitute a preprocessing token of a kind (C11 6.4)
@@ -47,29 +52,9 @@ IsToken Number text = IsPpNumber text
 IsToken Punct text = Contains punctuators text
 IsToken _ text = ⊥
 
--- no more of what stands behind the text could be part of its token: the longest one is taken (C11 6.4, paragraph 4)
+-- no more of what stands after the text could be part of its token: the longest one is taken (C11
+-- 6.4, paragraph 4)
 abbrev pub IsLongest : List ℕ → List ℕ → Type 0
-IsLongest text rest = (kind : Kind) (more others : List ℕ) → rest ≡ more ++ others → IsToken kind (text ++ more) → more ≡ []
-
--- the value of decimal digits, the first of which is the most significant (C11 6.4.4.1)
-abbrev pub number_of : List ℕ → ℕ
-number_of text = fold (λ value digit. 10 * value + (digit - 48)) 0 text
-
--- a decimal constant with no suffix, or `0` (C11 6.4.4.1)
-abbrev pub IsDecimal : List ℕ → Type 0
-IsDecimal [] = ⊥
-IsDecimal (b ∷ bs) = (list_all is_digit (b ∷ bs) ≡ true) × (b ≡ 48 → bs ≡ [])
-
--- the greatest value of an `int` of 32 bits (C11 5.2.4.2.1)
-unfoldable pub greatest : ℕ
-greatest = 2147483647
-
--- a decimal constant that is a value of type `int` (C11 6.4.4.1)
-abbrev pub IsIntConstant : List ℕ → Type 0
-IsIntConstant text = IsDecimal text × (number_of text ≤ greatest)
-
--- what this language permits of a kind: any name, numbers that are of type `int`, punctuators of one character
-abbrev pub IsPermitted : Kind → List ℕ → Type 0
-IsPermitted Number text = IsIntConstant text
-IsPermitted Punct text = length text ≡ 1
-IsPermitted _ text = Unit {0}
+IsLongest text rest =
+    (kind : Kind) (more others : List ℕ) → rest ≡ more ++ others → IsToken kind (text ++ more)
+    → more ≡ []

@@ -1,10 +1,10 @@
 //! What stands before an element of a source.
-ghost use Rattle.std.specs.Prelude.{◌≡◌, cond, bytes_eq};
-ghost use Rattle.cx_lex.specs.Behind.{behind_comment, behind_piece, behind_separator};
-ghost use Rattle.cx_lex.specs.Elements.{at_start, directive_behind};
+ghost use Rattle.std.specs.Prelude.{◌≡◌, if◌then◌else◌, bytes_eq};
+ghost use Rattle.cx_lex.specs.Shapes.After.{after_comment, after_piece, after_separator};
+ghost use Rattle.cx_lex.specs.Elements.{at_start, directive_after};
 ghost use Rattle.cx_lex.specs.declared.before.Directive.TheVariants.{Nothing};
 
-use cx_tokens::Kind;
+use cx_tokens::{Kind, plain_text};
 
 /// How far an include line has been read.
 #[derive(Clone, Copy, Debug, PartialEq, Eq)]
@@ -39,12 +39,12 @@ impl Before {
         }
     }
 
-    /// What stands behind a separator, which may belong to a newline.
-    pub fn behind_separator(self, newline: bool) -> Before
-        ensures { result ≡ behind_separator self newline }
+    /// What stands after a separator, which may belong to a newline.
+    pub fn after_separator(self, newline: bool) -> Before
+        ensures { result ≡ after_separator self newline }
     {
         if !newline {
-            return self.behind_comment();
+            return self.after_comment();
         }
         Before {
             space: true,
@@ -53,20 +53,20 @@ impl Before {
         }
     }
 
-    /// What stands behind a comment.
-    pub fn behind_comment(self) -> Before
-        ensures { result ≡ behind_comment self }
+    /// What stands after a comment.
+    pub fn after_comment(self) -> Before
+        ensures { result ≡ after_comment self }
     {
-        let mut behind = self;
-        behind.space = true;
-        behind
+        let mut after = self;
+        after.space = true;
+        after
     }
 
-    /// What stands behind a piece of this kind and text.
-    pub fn behind_piece(self, kind: Kind, text: &[u8]) -> Before
-        ensures { result ≡ behind_piece self kind text.now }
+    /// What stands after a piece of this kind and spelling.
+    pub fn after_piece(self, kind: Kind, spelled: &[u8]) -> Before
+        ensures { result ≡ after_piece self kind spelled.now }
     {
-        let directive = self.directive.behind(kind, text);
+        let directive = self.directive.after(kind, plain_text(kind, spelled));
         Before {
             space: false,
             first_on_line: false,
@@ -76,10 +76,10 @@ impl Before {
 }
 
 impl Directive {
-    // How far an include line has been read behind a piece.
-    #[tactic(auto, unfolding(crate::specs::Elements::directive_behind))]
-    fn behind(self, kind: Kind, text: &[u8]) -> Directive
-        ensures { result ≡ directive_behind self kind text.now }
+    // How far an include line has been read after a piece.
+    #[tactic(auto, unfolding(crate::specs::Elements::directive_after))]
+    fn after(self, kind: Kind, text: &[u8]) -> Directive
+        ensures { result ≡ directive_after self kind text.now }
     {
         match kind {
             Kind::Punct => if_equal(text, b"#", Directive::Hash),
@@ -94,7 +94,7 @@ impl Directive {
 
 // The directive where a text is that word, else none.
 fn if_equal(text: &[u8], word: &[u8], directive: Directive) -> Directive
-    ensures { result ≡ cond (bytes_eq text.now word.now) directive Nothing }
+    ensures { result ≡ if bytes_eq text.now word.now then directive else Nothing }
 {
     if text == word {
         return directive;

@@ -1,10 +1,10 @@
 //! A walk over the characters of a source.
-ghost use Rattle.std.specs.Prelude.{◌≡◌, ℕ, ◌+◌, ◌<◌, ◌≤◌, ◌^◌, List as list, [], ◌∷◌, Some, None, MatchOption, IfSome, true, false, not, ◌&&◌, nat_lt, length};
+ghost use Rattle.std.specs.Prelude.{◌≡◌, ℕ, ◌+◌, ◌<◌, ◌≤◌, ◌^◌, List as list, [], ◌∷◌, Some, None, MatchOption, IfSome, true, false, not, ◌&&◌, length};
 ghost use Rattle.cx_base.specs.declared.place.Place.{Place as place_type};
 ghost use Rattle.cx_lex.specs.declared.character.Character.{Character as character};
-ghost use Rattle.cx_lex.specs.Lines.{characters, file_start, newline_size, next_line};
-ghost use Rattle.cx_lex.specs.Scanning.{behind, is_barren};
-ghost use Rattle.cx_lex.specs.Walking.{BehindNewline, IsKept, place_behind};
+ghost use Rattle.cx_lex.specs.Lines.{begins_with_newline, characters, file_start, next_line, place_after, place_limit};
+ghost use Rattle.cx_lex.specs.Shapes.Scanning.{is_barren, rest_after};
+ghost use Rattle.cx_lex.specs.Shapes.Walking.{AfterNewline, IsKept};
 
 use crate::bytes::first;
 use crate::character::Character;
@@ -24,22 +24,22 @@ impl<'a> Model for Cursor<'a> {
     ghost use Rattle.std.specs.Prelude.{◌≡◌, ◌+◌, ◌<◌, ◌^◌, List, length, true};
     ghost use Rattle.cx_lex.specs.declared.character.Character.{Character};
     ghost use Rattle.cx_lex.specs.Lines.{characters};
-    ghost use Rattle.cx_lex.specs.Scanning.{is_barren};
+    ghost use Rattle.cx_lex.specs.Shapes.Scanning.{is_barren};
 
     ghost Value = { List Character };
 
-    ghost view = { λ c. characters 0 c.place c.rest.now };
+    ghost view = { λ c. characters c.place c.rest.now };
 
     ghost invariant = { λ c. (c.place.line + length c.rest.now < 2 ^ 32)
         × (c.place.column + length c.rest.now < 2 ^ 32)
-        × (c.barren ≡ true → is_barren (characters 0 c.place c.rest.now) ≡ true) };
+        × (c.barren ≡ true → is_barren (characters c.place c.rest.now) ≡ true) };
 }
 
 impl<'a> Cursor<'a> {
     /// The characters of a file.
     pub fn new(bytes: &'a [u8], file: u32) -> Cursor<'a>
-        requires { length bytes.now < 4294967295 }
-        ensures { result ≡ characters 0 (file_start file) bytes.now }
+        requires { length bytes.now < place_limit }
+        ensures { result ≡ characters (file_start file) bytes.now }
     {
         Cursor {
             rest: bytes,
@@ -66,7 +66,8 @@ impl<'a> Cursor<'a> {
     /// Passes the next character.
     #[tactic(auto, using(crate::proofs::Walk::barren_behind))]
     pub fn next(&mut self) -> Option<Character>
-        ensures { MatchOption result (self.old ≡ [] × self.new ≡ []) (λ c. self.old ≡ c ∷ self.new) }
+        ensures { MatchOption result (self.old ≡ [] × self.new ≡ [])
+            (λ c. self.old ≡ c ∷ self.new) }
     {
         let step = next_character(self.rest, self.place)?;
         self.rest = step.rest;
@@ -77,15 +78,17 @@ impl<'a> Cursor<'a> {
 
     /// The next character.
     pub fn peek(&self) -> Option<Character>
-        ensures { MatchOption result (self.now ≡ []) (λ c. (rest : list character) × (self.now ≡ c ∷ rest)) }
+        ensures { MatchOption result (self.now ≡ [])
+            (λ c. (rest : list character) × (self.now ≡ c ∷ rest)) }
     {
         self.copy().next()
     }
 
-    /// What is left behind these bytes, where they stand in front.
+    /// What is left after these bytes, where they stand in front.
     #[tactic(auto, using(crate::proofs::Behinds::behind_nothing, crate::proofs::Behinds::behind_end, crate::proofs::Behinds::behind_same, crate::proofs::Behinds::behind_other))]
-    pub fn behind(&self, word: &[u8]) -> Option<Cursor<'a>>
-        ensures { MatchOption result (behind word.now self.now ≡ None) (λ rest. behind word.now self.now ≡ Some rest) }
+    pub fn rest_after(&self, word: &[u8]) -> Option<Cursor<'a>>
+        ensures { MatchOption result (rest_after word.now self.now ≡ None)
+            (λ rest. rest_after word.now self.now ≡ Some rest) }
     {
         let mut ahead = self.copy();
         let mut left = word;
@@ -117,7 +120,7 @@ impl<'a> Cursor<'a> {
     }
 }
 
-// The next character, and what stands behind it.
+// The next character, and what stands after it.
 #[derive(Drop)]
 struct Step<'a> {
     character: Character,
@@ -129,13 +132,14 @@ struct Step<'a> {
 fn next_character<'a>(bytes: &'a [u8], at: Place) -> Option<Step<'a>>
     requires line { at.line + length bytes.now < 2 ^ 32 }
     requires column { at.column + length bytes.now < 2 ^ 32 }
-    ensures characters { MatchOption result (characters 0 at bytes.now ≡ []) (λ s. characters 0 at bytes.now ≡ s.character ∷ characters 0 s.place s.rest.now) }
+    ensures characters { MatchOption result (characters at bytes.now ≡ [])
+        (λ s. characters at bytes.now ≡ s.character ∷ characters s.place s.rest.now) }
     ensures line { IfSome result (λ s. s.place.line + length s.rest.now < 2 ^ 32) }
     ensures column { IfSome result (λ s. s.place.column + length s.rest.now < 2 ^ 32) }
 {
     let mut rest = bytes;
     let mut place = at;
-    while let Some(more) = behind_deleted(rest) {
+    while let Some(more) = after_deleted(rest) {
         rest = more;
         place = next_line(place);
     }
@@ -148,27 +152,29 @@ fn next_character<'a>(bytes: &'a [u8], at: Place) -> Option<Step<'a>>
     Some(Step {
         character,
         rest: more,
-        place: place_behind(place, code),
+        place: place_after(place, code),
     })
 }
 
-// What stands behind the deleted newline in front, where there is one.
+// What stands after the deleted newline in front, where there is one.
 #[tactic(auto, using(crate::proofs::Walk::characters_deleted))]
-fn behind_deleted<'a>(bytes: &'a [u8]) -> Option<&'a [u8]>
-    ensures rest { MatchOption result (IsKept bytes.now) (λ rest. (at : place_type) → characters 0 at bytes.now ≡ characters 0 (next_line at) rest.now) }
+fn after_deleted<'a>(bytes: &'a [u8]) -> Option<&'a [u8]>
+    ensures rest { MatchOption result (IsKept bytes.now)
+        (λ rest. (at : place_type) → characters at bytes.now ≡ characters (next_line at) rest.now) }
     ensures shorter { IfSome result (λ rest. length rest.now < length bytes.now) }
 {
     let (code, more) = first(bytes)?;
     if code != b'\\' {
         return None;
     }
-    newline(more)
+    after_newline(more)
 }
 
-// What stands behind the newline in front, where there is one.
+// What stands after the newline in front, where there is one.
 #[tactic(auto, using(crate::proofs::Walk::newline_one, crate::proofs::Walk::newline_two))]
-fn newline<'a>(bytes: &'a [u8]) -> Option<&'a [u8]>
-    ensures { MatchOption result (newline_size bytes.now ≡ 0) (λ rest. BehindNewline bytes.now rest.now) }
+fn after_newline<'a>(bytes: &'a [u8]) -> Option<&'a [u8]>
+    ensures { MatchOption result (begins_with_newline bytes.now ≡ false)
+        (λ rest. AfterNewline bytes.now rest.now) }
 {
     let (code, more) = first(bytes)?;
     if code == b'\n' {
@@ -184,7 +190,7 @@ fn newline<'a>(bytes: &'a [u8]) -> Option<&'a [u8]>
     Some(rest)
 }
 
-// Whether what was found of a line holds behind a character too.
+// Whether what was found of a line holds after a character too.
 fn stays_barren(barren: bool, in_newline: bool) -> bool
     ensures { result ≡ true → (barren ≡ true) × (in_newline ≡ false) }
 {
@@ -193,9 +199,9 @@ fn stays_barren(barren: bool, in_newline: bool) -> bool
 
 // Whether a newline stands in front.
 fn is_newline(bytes: &[u8]) -> bool
-    ensures { result ≡ nat_lt 0 (newline_size bytes.now) }
+    ensures { result ≡ begins_with_newline bytes.now }
 {
-    match newline(bytes) {
+    match after_newline(bytes) {
         None => false,
         Some(_) => true,
     }
@@ -212,12 +218,12 @@ fn next_line(at: Place) -> Place
     }
 }
 
-// The place behind a character that is not deleted.
-#[tactic(auto, unfolding(crate::specs::Walking::place_behind))]
-fn place_behind(at: Place, code: u8) -> Place
+// The place after a character that is not deleted.
+#[tactic(auto, unfolding(crate::specs::Lines::place_after))]
+fn place_after(at: Place, code: u8) -> Place
     requires line { at.line + 1 < 2 ^ 32 }
     requires column { at.column + 1 < 2 ^ 32 }
-    ensures place { result ≡ place_behind at code }
+    ensures place { result ≡ place_after at code }
     ensures line { result.line ≤ at.line + 1 }
     ensures column { result.column ≤ at.column + 1 }
 {

@@ -4,11 +4,13 @@ ghost use Rattle.std.specs.Prelude.{◌≡◌, ℕ, ◌+◌, ◌<◌, ◌≤◌,
 ghost use Rattle.cx_lex.specs.declared.first_lexer.State.TheVariants.{Between};
 ghost use Rattle.cx_tokens.specs.declared.token.Kind.TheVariants.{Punct};
 ghost use Rattle.cx_lex.specs.declared.piece.Piece.{Piece as piece};
-ghost use Rattle.cx_lex.specs.Characters.{is_blank, is_mark, is_word};
-ghost use Rattle.cx_lex.specs.Cut.{closed, cut, extended, going, joined, joins, kind_of, mark_of, next, one_piece, piece_of, starts_number};
-ghost use Rattle.cx_lex.specs.Pieces.{FirstPieces, start};
+ghost use Rattle.cx_lex.specs.FirstPieces.{is_blank, is_mark};
+ghost use Rattle.cx_lex.specs.Characters.{is_word};
+ghost use Rattle.cx_lex.specs.Shapes.FirstCut.{closed, cut, extended, going, joined, joins, kind_of, mark_of, next, one_piece, piece_of, starts_number};
+ghost use Rattle.cx_lex.specs.FirstPieces.{FirstPieces, start};
 
-use crate::bytes::{first, is_blank, is_mark, is_pair, is_word};
+use crate::bytes::{first, is_word};
+use crate::first_bytes::{is_blank, is_mark, is_pair};
 use crate::number::value_of;
 use crate::piece::Piece;
 use crate::spot::Spot;
@@ -109,7 +111,7 @@ impl Lexer {
     }
 
     // Ends the word that is open, if one is; `false` where it is no piece of the language.
-    #[tactic(auto, unfolding(crate::specs::Cut::joined, crate::specs::Cut::closed))]
+    #[tactic(auto, unfolding(crate::specs::Shapes::FirstCut::joined, crate::specs::Shapes::FirstCut::closed))]
     fn close(&mut self, alloc: Global) -> Result<bool, NoMemory>
         ensures pieces { IfOk result (λ fits. joined (Some self.old.pieces) (closed self.old.state) ≡ (if fits then Some self.new.pieces else None)) }
         ensures state { OnOk result (self.new.state ≡ Between) }
@@ -121,7 +123,7 @@ impl Lexer {
         }
     }
 
-    #[tactic(auto, unfolding(crate::specs::Cut::joined, crate::specs::Cut::one_piece))]
+    #[tactic(auto, unfolding(crate::specs::Shapes::FirstCut::joined, crate::specs::Shapes::FirstCut::one_piece))]
     fn end_word(&mut self, alloc: Global, begins: Spot, text: Text) -> Result<bool, NoMemory>
         ensures pieces { IfOk result (λ fits. joined (Some self.old.pieces) (one_piece begins text (kind_of text)) ≡ (if fits then Some self.new.pieces else None)) }
         ensures state { OnOk result (self.new.state ≡ self.old.state) }
@@ -137,7 +139,7 @@ impl Lexer {
     }
 
     // Takes in a byte that belongs to no word: a blank, a punctuator, or one that fits nowhere.
-    #[tactic(auto, unfolding(crate::specs::Cut::mark_of, crate::specs::Cut::joined))]
+    #[tactic(auto, unfolding(crate::specs::Shapes::FirstCut::mark_of, crate::specs::Shapes::FirstCut::joined))]
     fn mark(&mut self, alloc: Global, byte: u8, rest: &[u8]) -> Result<bool, NoMemory>
         requires line { self.old.spot.place.line + 1 < 2 ^ 32 }
         requires column { self.old.spot.place.column + 1 < 2 ^ 32 }
@@ -159,7 +161,7 @@ impl Lexer {
     }
 
     // The pieces, once the text is at its end.
-    #[tactic(auto, unfolding(crate::specs::Cut::going, crate::specs::Cut::cut))]
+    #[tactic(auto, unfolding(crate::specs::Shapes::FirstCut::going, crate::specs::Shapes::FirstCut::cut))]
     fn finish(self, alloc: Global) -> Result<Option<List<Piece>>, NoMemory>
         ensures { IfOk result (λ found. found ≡ going self []) }
     {
@@ -174,7 +176,7 @@ impl Lexer {
 
 impl State {
     // With one byte of a word more, which stands at `spot`.
-    #[tactic(auto, unfolding(crate::specs::Cut::extended))]
+    #[tactic(auto, unfolding(crate::specs::Shapes::FirstCut::extended))]
     fn extended(self, alloc: Global, spot: Spot, byte: u8) -> Result<State, NoMemory>
         ensures { IfOk result (λ state. state ≡ extended spot byte self) }
     {
@@ -190,7 +192,7 @@ impl State {
 }
 
 // Whether a byte is a punctuator, and the next one makes no comment or longer punctuator of it.
-#[tactic(auto, unfolding(crate::specs::Cut::joins))]
+#[tactic(auto, unfolding(crate::specs::Shapes::FirstCut::joins))]
 fn stands_alone(byte: u8, rest: &[u8]) -> bool
     ensures { result ≡ (is_mark byte && not (joins byte rest.now)) }
 {
@@ -204,7 +206,7 @@ fn stands_alone(byte: u8, rest: &[u8]) -> bool
 }
 
 // The kind of a word, where it is a piece of the language.
-#[tactic(auto, unfolding(crate::specs::Cut::kind_of))]
+#[tactic(auto, unfolding(crate::specs::Shapes::FirstCut::kind_of))]
 fn kind_of(word: &[u8]) -> Option<Kind>
     ensures { result ≡ kind_of word.now }
 {
@@ -215,7 +217,7 @@ fn kind_of(word: &[u8]) -> Option<Kind>
     Some(Kind::Number)
 }
 
-#[tactic(auto, unfolding(crate::specs::Cut::starts_number, crate::specs::Characters::is_digit))]
+#[tactic(auto, unfolding(crate::specs::Shapes::FirstCut::starts_number, crate::specs::Characters::is_digit))]
 fn starts_number(word: &[u8]) -> bool
     ensures { result ≡ starts_number word.now }
 {
@@ -225,7 +227,7 @@ fn starts_number(word: &[u8]) -> bool
     }
 }
 
-#[tactic(auto, unfolding(crate::specs::Cut::piece_of))]
+#[tactic(auto, unfolding(crate::specs::Shapes::FirstCut::piece_of))]
 fn piece_of(alloc: Global, spot: Spot, kind: Kind, text: Text) -> Piece
     ensures { result ≡ piece_of spot kind text }
 {
@@ -237,6 +239,7 @@ fn piece_of(alloc: Global, spot: Spot, kind: Kind, text: Text) -> Piece
             hide: List::new(alloc),
             space: spot.space,
             parts: List::new(alloc),
+            digraph: false,
         },
         first_on_line: spot.first_on_line,
     }

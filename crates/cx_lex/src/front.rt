@@ -4,9 +4,9 @@ ghost use Rattle.cx_lex.specs.declared.character.Character.{Character as charact
 ghost use Rattle.cx_lex.specs.declared.scan.Scan.TheVariants.{InHeader};
 ghost use Rattle.cx_lex.specs.Characters.{is_digit};
 ghost use Rattle.cx_lex.specs.Elements.{is_separator};
-ghost use Rattle.cx_lex.specs.Fronts.{comment_at, comment_scan, element_at, front_of, header_close, header_rest, header_text, mark_piece, piece_at, piece_scan, plain_piece, rest_of, solid_at, starts_digit};
+ghost use Rattle.cx_lex.specs.Shapes.Fronts.{comment_at, comment_scan, element_at, front_of, header_close, header_rest, header_text, piece_at, piece_scan, plain_piece, punctuator_or_byte, rest_of, solid_at, starts_digit};
 ghost use Rattle.cx_lex.specs.Lexing.{place_of};
-ghost use Rattle.cx_lex.specs.Scanning.{longest, scanned, table};
+ghost use Rattle.cx_lex.specs.Shapes.Scanning.{longest, scanned, table};
 
 use crate::before::Directive;
 use crate::bytes::{is_digit, is_nondigit};
@@ -27,14 +27,14 @@ pub enum Front {
     Separator(bool),
     /// A comment, by its place and its text.
     OfComment(Place, Text),
-    /// A piece, by its place, its kind and its text.
+    /// A piece, by its place, its kind and its spelling.
     OfPiece(Place, Kind, Text),
     /// A comment that has no end, and that begins at this place.
     OpenComment(Place),
 }
 
 /// Passes the element in front.
-#[tactic(auto, unfolding(crate::specs::Fronts::element_at, crate::specs::Fronts::front_of, crate::specs::Fronts::rest_of))]
+#[tactic(auto, unfolding(crate::specs::Shapes::Fronts::element_at, crate::specs::Shapes::Fronts::front_of, crate::specs::Shapes::Fronts::rest_of))]
 pub fn front_element(
     alloc: Global,
     directive: Directive,
@@ -61,7 +61,7 @@ fn is_separator(c: Character) -> bool
 }
 
 // A comment or a piece that begins with a character.
-#[tactic(auto, unfolding(crate::specs::Fronts::solid_at))]
+#[tactic(auto, unfolding(crate::specs::Shapes::Fronts::solid_at))]
 fn solid(
     alloc: Global,
     directive: Directive,
@@ -71,19 +71,19 @@ fn solid(
     ensures front { IfOk result (λ f. f ≡ front_of (solid_at directive begin cursor.old)) }
     ensures rest { OnOk result (cursor.new ≡ rest_of (solid_at directive begin cursor.old)) }
 {
-    let mut behind = cursor.copy();
-    let Some(second) = behind.next() else {
+    let mut ahead = cursor.copy();
+    let Some(second) = ahead.next() else {
         return piece(alloc, directive, begin, cursor);
     };
     let Some(reading) = comment_scan(begin.code, second.code) else {
         return piece(alloc, directive, begin, cursor);
     };
-    *cursor = behind;
+    *cursor = ahead;
     comment(alloc, begin.place, reading, cursor)
 }
 
-// How a comment is read behind its mark.
-#[tactic(auto, unfolding(crate::specs::Fronts::comment_scan))]
+// How a comment is read after its opening.
+#[tactic(auto, unfolding(crate::specs::Shapes::Fronts::comment_scan))]
 fn comment_scan(begin: u8, second: u8) -> Option<Scan>
     ensures { result ≡ comment_scan begin second }
 {
@@ -97,16 +97,18 @@ fn comment_scan(begin: u8, second: u8) -> Option<Scan>
     }
 }
 
-// A comment behind its mark.
-#[tactic(auto, using(crate::proofs::Texts::but_two_bytes), unfolding(crate::specs::Fronts::comment_at, crate::specs::Fronts::front_of, crate::specs::Fronts::rest_of))]
+// A comment after its opening.
+#[tactic(auto, using(crate::proofs::Texts::but_two_bytes), unfolding(crate::specs::Shapes::Fronts::comment_at, crate::specs::Shapes::Fronts::front_of, crate::specs::Shapes::Fronts::rest_of))]
 fn comment(
     alloc: Global,
     place: Place,
     reading: Scan,
     cursor: &mut Cursor,
 ) -> Result<Front, NoMemory>
-    ensures front { IfOk result (λ f. (mark : list character) → place_of mark ≡ place → f ≡ front_of (comment_at mark (scanned reading cursor.old))) }
-    ensures rest { OnOk result ((mark : list character) → cursor.new ≡ rest_of (comment_at mark (scanned reading cursor.old))) }
+    ensures front { IfOk result (λ f. (opening : list character) → place_of opening ≡ place
+        → f ≡ front_of (comment_at opening (scanned reading cursor.old))) }
+    ensures rest { OnOk result ((opening : list character)
+        → cursor.new ≡ rest_of (comment_at opening (scanned reading cursor.old))) }
 {
     let scanned = read_on(Text::new(alloc), reading, cursor)?;
     let mut text = scanned.text;
@@ -123,7 +125,7 @@ fn comment(
 }
 
 // A piece that begins with a character.
-#[tactic(auto, using(crate::proofs::Texts::header_piece_text), unfolding(crate::specs::Fronts::piece_at, crate::specs::Fronts::header_or, crate::specs::Fronts::front_of, crate::specs::Fronts::rest_of))]
+#[tactic(auto, unfolding(crate::specs::Shapes::Fronts::piece_at, crate::specs::Shapes::Fronts::header_or, crate::specs::Shapes::Fronts::front_of, crate::specs::Shapes::Fronts::rest_of))]
 fn piece(
     alloc: Global,
     directive: Directive,
@@ -143,7 +145,7 @@ fn piece(
 }
 
 // The byte that ends the header name that a byte begins, where one is to stand there.
-#[tactic(auto, unfolding(crate::specs::Fronts::header_close))]
+#[tactic(auto, unfolding(crate::specs::Shapes::Fronts::header_close))]
 fn header_close(directive: Directive, begin: u8) -> Option<u8>
     ensures { result ≡ header_close directive begin }
 {
@@ -165,8 +167,10 @@ fn header(
     close: u8,
     cursor: &mut Cursor,
 ) -> Result<Option<Text>, NoMemory>
-    ensures text { IfOk result (λ text. text ≡ header_text begin (scanned (InHeader close) cursor.old)) }
-    ensures rest { OnOk result (cursor.new ≡ header_rest cursor.old (scanned (InHeader close) cursor.old)) }
+    ensures text { IfOk result
+        (λ text. text ≡ header_text begin (scanned (InHeader close) cursor.old)) }
+    ensures rest { OnOk result
+        (cursor.new ≡ header_rest cursor.old (scanned (InHeader close) cursor.old)) }
 {
     if close == b'>' && cursor.is_barren() {
         return Ok(None);
@@ -185,13 +189,13 @@ fn header(
 }
 
 // A piece that is no header name.
-#[tactic(auto, using(crate::proofs::Texts::scan_text), unfolding(crate::specs::Fronts::plain_piece, crate::specs::Fronts::front_of, crate::specs::Fronts::rest_of))]
+#[tactic(auto, unfolding(crate::specs::Shapes::Fronts::plain_piece, crate::specs::Shapes::Fronts::front_of, crate::specs::Shapes::Fronts::rest_of))]
 fn plain_piece(alloc: Global, begin: Character, cursor: &mut Cursor) -> Result<Front, NoMemory>
     ensures front { IfOk result (λ f. f ≡ front_of (plain_piece begin cursor.old)) }
     ensures rest { OnOk result (cursor.new ≡ rest_of (plain_piece begin cursor.old)) }
 {
     let Some(reading) = piece_scan(begin.code, cursor) else {
-        return mark(alloc, begin, cursor);
+        return punctuator_or_byte(alloc, begin, cursor);
     };
     let text = Text::from_slice(alloc, &[begin.code])?;
     let scanned = read_on(text, reading, cursor)?;
@@ -199,8 +203,8 @@ fn plain_piece(alloc: Global, begin: Character, cursor: &mut Cursor) -> Result<F
     Ok(Front::OfPiece(begin.place, kind, scanned.text))
 }
 
-// How a piece is read behind its first byte.
-#[tactic(auto, unfolding(crate::specs::Fronts::piece_scan))]
+// How a piece is read after its first byte.
+#[tactic(auto, unfolding(crate::specs::Shapes::Fronts::piece_scan))]
 fn piece_scan(begin: u8, cursor: &Cursor) -> Option<Scan>
     ensures { result ≡ piece_scan begin cursor.now }
 {
@@ -216,7 +220,7 @@ fn piece_scan(begin: u8, cursor: &Cursor) -> Option<Scan>
     None
 }
 
-// Whether a number begins with this byte: a digit, or `.` with a digit behind it.
+// Whether a number begins with this byte: a digit, or `.` with a digit after it.
 fn begins_number(begin: u8, cursor: &Cursor) -> bool
     ensures { result ≡ (is_digit begin || ((begin == 46) && starts_digit cursor.now)) }
 {
@@ -233,10 +237,16 @@ fn begins_number(begin: u8, cursor: &Cursor) -> bool
 }
 
 // A punctuator, or any other byte.
-#[tactic(auto, unfolding(crate::specs::Fronts::front_of, crate::specs::Fronts::rest_of))]
-fn mark(alloc: Global, begin: Character, cursor: &mut Cursor) -> Result<Front, NoMemory>
-    ensures front { IfOk result (λ f. f ≡ front_of (mark_piece begin cursor.old (longest table begin cursor.old))) }
-    ensures rest { OnOk result (cursor.new ≡ rest_of (mark_piece begin cursor.old (longest table begin cursor.old))) }
+#[tactic(auto, unfolding(crate::specs::Shapes::Fronts::front_of, crate::specs::Shapes::Fronts::rest_of))]
+fn punctuator_or_byte(
+    alloc: Global,
+    begin: Character,
+    cursor: &mut Cursor,
+) -> Result<Front, NoMemory>
+    ensures front { IfOk result (λ f. f
+        ≡ front_of (punctuator_or_byte begin cursor.old (longest table begin cursor.old))) }
+    ensures rest { OnOk result (cursor.new
+        ≡ rest_of (punctuator_or_byte begin cursor.old (longest table begin cursor.old))) }
 {
     let Some(text) = punctuator(alloc, begin, cursor)? else {
         let text = Text::from_slice(alloc, &[begin.code])?;

@@ -1,19 +1,22 @@
 //! The lexer: preprocessing tokens and comments of a source (C11 5.1.1.2, phases 1 to 3).
 ghost use Rattle.std.specs.Prelude.{◌≡◌, ℕ, ◌<◌, List as list, [], length, IfOk, MatchResult};
+ghost use Rattle.cx_tokens.specs.Digraphs.{is_digraph, plain_text};
 ghost use Rattle.cx_base.specs.declared.place.Place.{Place as place_type};
 ghost use Rattle.cx_lex.specs.declared.comment.Comment.{Comment as comment_type};
 ghost use Rattle.cx_lex.specs.declared.lexer.LexFault.TheVariants.{UnclosedComment, TooLong};
 ghost use Rattle.cx_lex.specs.declared.piece.Piece.{Piece as piece};
-ghost use Rattle.cx_lex.specs.Answers.{HasFault, IsFault, IsMadeOf};
-ghost use Rattle.cx_lex.specs.Lexing.{Lexes, Outcome, lexed, too_long, unclosed_comment};
+ghost use Rattle.cx_lex.specs.Faults.{HasFault, IsFaultOf};
+ghost use Rattle.cx_lex.specs.WholeText.{ConsistsOf};
+ghost use Rattle.cx_lex.specs.Lexing.{Lexes, Outcome, lexed, piece_limit, too_long, unclosed_comment};
+ghost use Rattle.cx_lex.specs.Lines.{place_limit};
 
 use crate::before::Before;
 use crate::comment::Comment;
 use crate::cursor::Cursor;
 use crate::front::{Front, front_element};
-use crate::piece::Piece;
+use crate::piece::{Piece, plain_form};
 use cx_base::{Duplicate, List, NoMemory, Place, Text};
-use cx_tokens::{Kind, Token};
+use cx_tokens::{Kind, Token, is_digraph};
 use std::alloc::Global;
 
 /// What a source consists of besides its separators.
@@ -58,40 +61,51 @@ const PIECES: u32 = 1_048_576;
 /// to 3). Places have the number `file`. The answer is a fault where a comment has no end, where
 /// there are more pieces, whichever comes first in the source, or where memory runs out.
 pub fn lex(alloc: Global, bytes: &[u8], file: u32) -> Result<Lexed, LexFault>
-    requires { length bytes.now < 4294967295 }
-    ensures ok { IfOk result (λ l. Lexes file 1048576 bytes.now (lexed l.pieces l.comments)) }
-    ensures unclosed { (at : place_type) → result ≡ Err (UnclosedComment at) → Lexes file 1048576 bytes.now (unclosed_comment at) }
-    ensures long { (at : place_type) → result ≡ Err (TooLong at) → Lexes file 1048576 bytes.now (too_long at) }
-    ensures only { (outcome : Outcome) → Lexes file 1048576 bytes.now outcome → MatchResult result (λ l. outcome ≡ lexed l.pieces l.comments) (λ fault. IsFault fault outcome) }
+    requires { length bytes.now < place_limit }
+    ensures ok { IfOk result (λ l. Lexes file piece_limit bytes.now (lexed l.pieces l.comments)) }
+    ensures unclosed { (at : place_type) → result ≡ Err (UnclosedComment at)
+        → Lexes file piece_limit bytes.now (unclosed_comment at) }
+    ensures long { (at : place_type) → result ≡ Err (TooLong at)
+        → Lexes file piece_limit bytes.now (too_long at) }
+    ensures only { (outcome : Outcome) → Lexes file piece_limit bytes.now outcome
+        → MatchResult result (λ l. outcome ≡ lexed l.pieces l.comments)
+        (λ fault. IsFaultOf fault outcome) }
 {
     lex_within(alloc, bytes, file, PIECES)
 }
 
 /// The same, where the source may have `limit` pieces.
 pub fn lex_within(alloc: Global, bytes: &[u8], file: u32, limit: u32) -> Result<Lexed, LexFault>
-    requires { length bytes.now < 4294967295 }
+    requires { length bytes.now < place_limit }
     ensures ok { IfOk result (λ l. Lexes file limit bytes.now (lexed l.pieces l.comments)) }
-    ensures unclosed { (at : place_type) → result ≡ Err (UnclosedComment at) → Lexes file limit bytes.now (unclosed_comment at) }
-    ensures long { (at : place_type) → result ≡ Err (TooLong at) → Lexes file limit bytes.now (too_long at) }
-    ensures only { (outcome : Outcome) → Lexes file limit bytes.now outcome → MatchResult result (λ l. outcome ≡ lexed l.pieces l.comments) (λ fault. IsFault fault outcome) }
+    ensures unclosed { (at : place_type) → result ≡ Err (UnclosedComment at)
+        → Lexes file limit bytes.now (unclosed_comment at) }
+    ensures long { (at : place_type) → result ≡ Err (TooLong at)
+        → Lexes file limit bytes.now (too_long at) }
+    ensures only { (outcome : Outcome) → Lexes file limit bytes.now outcome
+        → MatchResult result (λ l. outcome ≡ lexed l.pieces l.comments)
+        (λ fault. IsFaultOf fault outcome) }
 {
     elements(alloc, bytes, file, limit)
 }
 
 /// A text has at most one outcome.
 pub fn one_outcome()
-    ensures { (file limit : ℕ) (text : list ℕ) (some other : Outcome) → Lexes file limit text some → Lexes file limit text other → some ≡ other }
+    ensures { (file limit : ℕ) (text : list ℕ) (some other : Outcome)
+        → Lexes file limit text some → Lexes file limit text other → some ≡ other }
 {}
 
 /// Every text has an outcome.
 pub fn some_outcome()
-    ensures { (file limit : ℕ) (text : list ℕ) → (outcome : Outcome) × Lexes file limit text outcome }
+    ensures { (file limit : ℕ) (text : list ℕ)
+        → (outcome : Outcome) × Lexes file limit text outcome }
 {}
 
 /// The separators, the comments and the pieces are all of the text but its deleted newlines, in
-/// order.
+/// order, and each piece keeps its spelling.
 pub fn elements_are_the_text()
-    ensures { (file limit : ℕ) (text : list ℕ) (pieces : list piece) (comments : list comment_type) → Lexes file limit text (lexed pieces comments) → IsMadeOf text pieces comments }
+    ensures { (file limit : ℕ) (text : list ℕ) (pieces : list piece) (comments : list comment_type)
+        → Lexes file limit text (lexed pieces comments) → ConsistsOf file text pieces comments }
 {}
 
 impl Lexed {
@@ -122,8 +136,9 @@ impl Duplicate for Lexed {
 
 // Passes element by element.
 fn elements(alloc: Global, bytes: &[u8], file: u32, limit: u32) -> Result<Lexed, LexFault>
-    requires { length bytes.now < 4294967295 }
-    ensures { MatchResult result (λ l. Lexes file limit bytes.now (lexed l.pieces l.comments)) (HasFault file limit bytes.now) }
+    requires { length bytes.now < place_limit }
+    ensures { MatchResult result (λ l. Lexes file limit bytes.now (lexed l.pieces l.comments))
+        (HasFault file limit bytes.now) }
 {
     let mut lexed = Lexed::new(alloc);
     let mut before = Before::at_start();
@@ -133,20 +148,21 @@ fn elements(alloc: Global, bytes: &[u8], file: u32, limit: u32) -> Result<Lexed,
             Front::AtEnd => return Ok(lexed),
             Front::OpenComment(at) => return Err(LexFault::UnclosedComment { at }),
             Front::Separator(newline) => {
-                before = before.behind_separator(newline);
+                before = before.after_separator(newline);
                 continue;
             }
             Front::OfComment(place, text) => {
                 lexed.comments.push(comment_of(before, place, text))?;
-                before = before.behind_comment();
+                before = before.after_comment();
                 continue;
             }
-            Front::OfPiece(at, kind, text) => {
+            Front::OfPiece(at, kind, spelled) => {
                 if lexed.pieces.len() >= limit as usize {
                     return Err(LexFault::TooLong { at });
                 }
-                let next = before.behind_piece(kind, text.as_slice());
-                lexed.pieces.push(piece_of(alloc, before, at, kind, text))?;
+                let next = before.after_piece(kind, spelled.as_slice());
+                let piece = piece_of(alloc, before, at, kind, spelled)?;
+                lexed.pieces.push(piece)?;
                 before = next;
                 continue;
             }
@@ -164,10 +180,29 @@ fn comment_of(before: Before, place: Place, text: Text) -> Comment
     }
 }
 
-fn piece_of(alloc: Global, before: Before, place: Place, kind: Kind, text: Text) -> Piece
-    ensures { result ≡ record { token = record { kind = kind; text = text; place = place; hide = []; space = before.space; parts = [] }; first_on_line = before.first_on_line } }
+fn piece_of(
+    alloc: Global,
+    before: Before,
+    place: Place,
+    kind: Kind,
+    spelled: Text,
+) -> Result<Piece, NoMemory>
+    ensures { IfOk result (λ piece. piece ≡ record {
+      token = record {
+        kind = kind;
+        text = plain_text kind spelled;
+        place = place;
+        hide = [];
+        space = before.space;
+        parts = [];
+        digraph = is_digraph kind spelled;
+      };
+      first_on_line = before.first_on_line;
+    }) }
 {
-    Piece {
+    let digraph = is_digraph(kind, spelled.as_slice());
+    let text = plain_form(alloc, kind, spelled)?;
+    Ok(Piece {
         token: Token {
             kind,
             text,
@@ -175,7 +210,8 @@ fn piece_of(alloc: Global, before: Before, place: Place, kind: Kind, text: Text)
             hide: List::new(alloc),
             space: before.space,
             parts: List::new(alloc),
+            digraph,
         },
         first_on_line: before.first_on_line,
-    }
+    })
 }

@@ -50,7 +50,7 @@ fn shown(alloc: Global, answer: &Result<Lexed, LexFault>) -> Result<String, Allo
 }
 
 // Each piece as TEXT@LINE:COLUMN KIND, with `space` and `first` where its flags are set; each
-// comment behind them as /TEXT@LINE:COLUMN, with `alone`.
+// comment after them as /TEXT@LINE:COLUMN, with `alone`.
 const PIECES: [(&str, &str); 24] = [
     ("", ""),
     (" \t\n\u{b}\u{c}\r\n", ""),
@@ -172,6 +172,19 @@ const ONE: [(&[u8], Kind, &[u8]); 4] = [
 // Bytes that are none, or more than one.
 const NONE: [&[u8]; 4] = [b"", b"//", b"a ", b"<a>"];
 
+// Punctuators, each with its text and its spelling; the digraphs of C11 6.4.6, paragraph 3, among
+// them.
+const SPELLINGS: [(&[u8], &[u8]); 8] = [
+    (b"<:", b"["),
+    (b":>", b"]"),
+    (b"<%", b"{"),
+    (b"%>", b"}"),
+    (b"%:", b"#"),
+    (b"%:%:", b"##"),
+    (b"[", b"["),
+    (b"##", b"##"),
+];
+
 #[test]
 fn pieces_are_found(rt: HostRuntime) {
     for (text, expected) in PIECES {
@@ -218,6 +231,19 @@ fn a_piece_past_the_limit_is_a_fault(rt: HostRuntime) {
         let answer = lex_within(rt.alloc(), b"a b\nc/***/", 0, limit);
         let shown = shown(rt.alloc(), &answer).expect(&rt, "memory");
         assert_eq!(rt; shown.as_str(), expected);
+    }
+}
+
+#[test]
+fn a_digraph_keeps_its_spelling(rt: HostRuntime) {
+    for (spelled, text) in SPELLINGS {
+        let answer = lex(rt.alloc(), spelled, 0).expect(&rt, "memory");
+        assert_eq!(rt; answer.pieces.len(), 1);
+        let piece = answer.pieces.as_slice().first().expect(&rt, "a piece");
+        let token = &piece.token;
+        assert_eq!(rt; token.text.as_slice(), text);
+        assert_eq!(rt; token.digraph, spelled != text);
+        assert_eq!(rt; token.spelling(), spelled);
     }
 }
 

@@ -17,6 +17,7 @@ mod bytes;
 mod character;
 mod comment;
 mod cursor;
+mod first_bytes;
 mod first_lexer;
 mod front;
 mod lexer;

@@ -1,7 +1,7 @@
 //! Values of numbers.
 ghost use Rattle.std.specs.Prelude.{◌≡◌, ◌+◌, ◌-◌, ◌*◌, ◌≤◌, MatchOption, true, false};
-ghost use Rattle.cx_lex.specs.Cut.{digits_from, takes_digit, value_of};
-ghost use Rattle.cx_lex.specs.Forms.{IsIntConstant, greatest, number_of};
+ghost use Rattle.cx_lex.specs.Shapes.FirstCut.{digits_from, takes_digit, value_of};
+ghost use Rattle.cx_lex.specs.FirstPieces.{IsIntConstant, greatest, number_of};
 
 use crate::bytes::first;
 
@@ -16,7 +16,7 @@ pub fn number_value(text: &[u8]) -> Option<u32>
 }
 
 /// The same, as it is computed.
-#[tactic(auto, unfolding(crate::specs::Cut::value_of))]
+#[tactic(auto, unfolding(crate::specs::Shapes::FirstCut::value_of))]
 pub fn value_of(text: &[u8]) -> Option<u32>
     ensures { result ≡ value_of text.now }
 {
@@ -41,7 +41,7 @@ fn digits_value(text: &[u8]) -> Option<u32>
 }
 
 // The value with one digit more, where that is not too great.
-#[tactic(auto, unfolding(crate::specs::Cut::takes_digit, crate::specs::Characters::is_digit, crate::specs::Forms::greatest))]
+#[tactic(auto, unfolding(crate::specs::Shapes::FirstCut::takes_digit, crate::specs::Characters::is_digit, crate::specs::FirstPieces::greatest))]
 fn with_digit(value: u32, byte: u8) -> Option<u32>
     requires { value ≤ greatest }
     ensures { MatchOption result (takes_digit value byte ≡ false) (λ more. (takes_digit value byte ≡ true) × (more ≡ 10 * value + (byte - 48)) × (more ≤ greatest)) }

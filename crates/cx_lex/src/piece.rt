@@ -1,8 +1,10 @@
 //! Tokens as they stand in a source.
 ghost use Rattle.std.specs.Prelude.{◌≡◌, IfOk};
+ghost use Rattle.cx_tokens.specs.Digraphs.{plain_text};
 
-use cx_base::{Duplicate, NoMemory};
-use cx_tokens::Token;
+use cx_base::{Duplicate, NoMemory, Text};
+use cx_tokens::{Kind, Token, is_digraph, plain_text};
+use std::alloc::Global;
 
 /// A token as it stands in a source.
 #[derive(Debug, Drop)]
@@ -28,4 +30,15 @@ impl Duplicate for Piece {
     fn duplicate(&self) -> Result<Piece, NoMemory> {
         self.copy()
     }
+}
+
+/// The text of a piece: its spelling, and of a digraph the plain form (C11 6.4.6, paragraph 3).
+#[tactic(auto, using(crate::proofs::Plain::plain_is_spelling))]
+pub(crate) fn plain_form(alloc: Global, kind: Kind, spelled: Text) -> Result<Text, NoMemory>
+    ensures { IfOk result (λ text. text ≡ plain_text kind spelled) }
+{
+    if !is_digraph(kind, spelled.as_slice()) {
+        return Ok(spelled);
+    }
+    Text::from_slice(alloc, plain_text(kind, spelled.as_slice()))
 }

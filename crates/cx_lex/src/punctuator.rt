@@ -1,8 +1,6 @@
 //! Punctuators.
-ghost use Rattle.std.specs.Prelude.{◌≡◌, Some, None, IfOk, MatchOption, bytes_eq};
-ghost use Rattle.cx_lex.specs.Elements.{piece_text};
-ghost use Rattle.cx_tokens.specs.declared.token.Kind.TheVariants.{Punct};
-ghost use Rattle.cx_lex.specs.Scanning.{behind_word, longest, mark_rest, mark_text, table, words_of};
+ghost use Rattle.std.specs.Prelude.{◌≡◌, Some, None, IfOk, MatchOption};
+ghost use Rattle.cx_lex.specs.Shapes.Scanning.{found_rest, found_word, longest, rest_after_begin, table, words_of};
 
 use crate::bytes::first;
 use crate::character::Character;
@@ -19,15 +17,16 @@ const PUNCTUATORS: [&[u8]; 54] = [
     b"!", b"/", b"%", b"<", b">", b"^", b"|", b"?", b":", b";", b"=", b",", b"#",
 ];
 
-/// Passes the longest punctuator that a character begins, where there is one, and answers the text
-/// of its piece: of a digraph, the punctuator that it stands for.
+/// Passes the longest punctuator that a character begins, where there is one, and answers its
+/// bytes.
 pub fn punctuator(
     alloc: Global,
     begin: Character,
     cursor: &mut Cursor,
 ) -> Result<Option<Text>, NoMemory>
-    ensures text { IfOk result (λ text. text ≡ mark_text (longest table begin cursor.old)) }
-    ensures rest { IfOk result (λ text. cursor.new ≡ mark_rest cursor.old (longest table begin cursor.old)) }
+    ensures text { IfOk result (λ text. text ≡ found_word (longest table begin cursor.old)) }
+    ensures rest { IfOk result
+        (λ text. cursor.new ≡ found_rest cursor.old (longest table begin cursor.old)) }
 {
     longest_of(alloc, &PUNCTUATORS, begin, cursor)
 }
@@ -39,12 +38,15 @@ fn longest_of(
     begin: Character,
     cursor: &mut Cursor,
 ) -> Result<Option<Text>, NoMemory>
-    ensures text { IfOk result (λ text. text ≡ mark_text (longest (words_of words.now) begin cursor.old)) }
-    ensures rest { IfOk result (λ text. cursor.new ≡ mark_rest cursor.old (longest (words_of words.now) begin cursor.old)) }
+    ensures text { IfOk result
+        (λ text. text ≡ found_word (longest (words_of words.now) begin cursor.old)) }
+    ensures rest { IfOk result
+        (λ text. cursor.new
+        ≡ found_rest cursor.old (longest (words_of words.now) begin cursor.old)) }
 {
     for word in words {
-        if let Some(rest) = behind(word, begin, cursor) {
-            let text = plain(alloc, word)?;
+        if let Some(rest) = rest_after(word, begin, cursor) {
+            let text = Text::from_slice(alloc, word)?;
             *cursor = rest;
             return Ok(Some(text));
         }
@@ -52,10 +54,11 @@ fn longest_of(
     Ok(None)
 }
 
-// What is left behind a word that a character begins, where the word stands there.
-#[tactic(auto, unfolding(crate::specs::Scanning::behind_word))]
-fn behind<'a>(word: &[u8], begin: Character, cursor: &Cursor<'a>) -> Option<Cursor<'a>>
-    ensures { MatchOption result (behind_word word.now begin cursor.now ≡ None) (λ rest. behind_word word.now begin cursor.now ≡ Some rest) }
+// What is left after a word that a character begins, where the word stands there.
+#[tactic(auto, unfolding(crate::specs::Shapes::Scanning::rest_after_begin))]
+fn rest_after<'a>(word: &[u8], begin: Character, cursor: &Cursor<'a>) -> Option<Cursor<'a>>
+    ensures { MatchOption result (rest_after_begin word.now begin cursor.now ≡ None)
+        (λ rest. rest_after_begin word.now begin cursor.now ≡ Some rest) }
 {
     let Some((byte, more)) = first(word) else {
         return None;
@@ -63,43 +66,5 @@ fn behind<'a>(word: &[u8], begin: Character, cursor: &Cursor<'a>) -> Option<Curs
     if byte != begin.code {
         return None;
     }
-    cursor.behind(more)
-}
-
-// The text of a punctuator's piece.
-fn plain(alloc: Global, word: &[u8]) -> Result<Text, NoMemory>
-    ensures { IfOk result (λ text. text ≡ piece_text Punct word.now) }
-{
-    Text::from_slice(alloc, plain_form(word))
-}
-
-#[tactic(auto, using(crate::proofs::Plain::plain_is))]
-fn plain_form<'a>(word: &'a [u8]) -> &'a [u8]
-    ensures { result.now ≡ piece_text Punct word.now }
-{
-    if equals(b"<:", word) {
-        return b"[";
-    }
-    if equals(b":>", word) {
-        return b"]";
-    }
-    if equals(b"<%", word) {
-        return b"{";
-    }
-    if equals(b"%>", word) {
-        return b"}";
-    }
-    if equals(b"%:", word) {
-        return b"#";
-    }
-    if equals(b"%:%:", word) {
-        return b"##";
-    }
-    word
-}
-
-fn equals(word: &[u8], other: &[u8]) -> bool
-    ensures { result ≡ bytes_eq word.now other.now }
-{
-    word == other
+    cursor.rest_after(more)
 }

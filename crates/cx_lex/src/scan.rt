@@ -1,8 +1,7 @@
 //! How far a name, a number, a quoted text, a header name or a comment goes.
-ghost use Rattle.std.specs.Prelude.{◌≡◌, ◌++◌, Some, None, IfOk, OnOk, cond, ◌==◌, ◌&&◌};
-ghost use Rattle.cx_lex.specs.declared.scan.Scan.TheVariants.{InHeader, InBlockComment, Closed};
+ghost use Rattle.std.specs.Prelude.{◌≡◌, ◌++◌, Some, None, IfOk, OnOk};
 ghost use Rattle.cx_lex.specs.Lines.{bytes_of};
-ghost use Rattle.cx_lex.specs.Scanning.{closed_kind, is_closed, kept_if, quoted_step, scan_kind, scanned, step_of};
+ghost use Rattle.cx_lex.specs.Shapes.Scanning.{block_step, closed_kind, header_step, is_closed, kept_if, quoted_step, scan_kind, scanned, step_of};
 
 use crate::bytes::{goes_on, is_word};
 use crate::character::Character;
@@ -14,9 +13,9 @@ use cx_tokens::Kind;
 #[derive(Clone, Copy, Debug, PartialEq, Eq)]
 pub enum Scan {
     InName,
-    /// A number, behind this byte of it.
+    /// A number, after this byte of it.
     InNumber(u8),
-    /// A text behind this quote; and whether a backslash pairs with the next byte.
+    /// A text after this quote; and whether a backslash pairs with the next byte.
     InQuotes(u8, bool),
     /// A header name that this byte ends.
     InHeader(u8),
@@ -29,7 +28,7 @@ pub enum Scan {
 
 impl Scan {
     /// How it goes on with a character, or `None` where the character is no part of it.
-    #[tactic(auto, unfolding(crate::specs::Scanning::step_of))]
+    #[tactic(auto, unfolding(crate::specs::Shapes::Scanning::step_of))]
     fn step(self, next: Character) -> Option<Scan>
         ensures { result ≡ step_of self next }
     {
@@ -54,7 +53,7 @@ impl Scan {
     }
 
     /// The kind of a piece that begins with this byte and ends so.
-    #[tactic(auto, unfolding(crate::specs::Scanning::scan_kind))]
+    #[tactic(auto, unfolding(crate::specs::Shapes::Scanning::scan_kind))]
     pub fn kind(self, begin: u8) -> Kind
         ensures { result ≡ scan_kind begin self }
     {
@@ -76,7 +75,7 @@ fn closed_kind(quote: u8) -> Kind
     Kind::String
 }
 
-#[tactic(auto, unfolding(crate::specs::Scanning::kept_if))]
+#[tactic(auto, unfolding(crate::specs::Shapes::Scanning::kept_if))]
 fn kept_if(keeps: bool, scan: Scan) -> Option<Scan>
     ensures { result ≡ kept_if keeps scan }
 {
@@ -86,7 +85,7 @@ fn kept_if(keeps: bool, scan: Scan) -> Option<Scan>
     None
 }
 
-#[tactic(auto, unfolding(crate::specs::Scanning::quoted_step))]
+#[tactic(auto, unfolding(crate::specs::Shapes::Scanning::quoted_step))]
 fn quoted_step(quote: u8, paired: bool, code: u8) -> Scan
     ensures { result ≡ quoted_step quote paired code }
 {
@@ -100,7 +99,7 @@ fn quoted_step(quote: u8, paired: bool, code: u8) -> Scan
 }
 
 fn header_step(close: u8, code: u8) -> Scan
-    ensures { result ≡ cond (code == close) Closed (InHeader close) }
+    ensures { result ≡ header_step close code }
 {
     if code == close {
         return Scan::Closed;
@@ -109,7 +108,7 @@ fn header_step(close: u8, code: u8) -> Scan
 }
 
 fn block_step(star: bool, code: u8) -> Scan
-    ensures { result ≡ cond (star && (code == 47)) Closed (InBlockComment (code == 42)) }
+    ensures { result ≡ block_step star code }
 {
     if star && code == b'/' {
         return Scan::Closed;
@@ -117,7 +116,7 @@ fn block_step(star: bool, code: u8) -> Scan
     Scan::InBlockComment(code == b'*')
 }
 
-/// A text with what belongs to it behind the bytes so far, and how the reading ended.
+/// A text with what belongs to it after the bytes so far, and how the reading ended.
 #[derive(Drop)]
 pub struct Scanned {
     pub text: Text,

@@ -1,10 +1,10 @@
 //! Where a text stands.
 ghost use Rattle.std.specs.Prelude.{◌≡◌, ◌+◌, ◌<◌, ◌^◌, ◌&&◌, ◌||◌};
-ghost use Rattle.cx_lex.specs.Characters.{is_blank, is_newline};
-ghost use Rattle.cx_lex.specs.Cut.{next};
-ghost use Rattle.cx_lex.specs.Pieces.{after_byte, start};
+ghost use Rattle.cx_lex.specs.FirstPieces.{is_blank, is_newline};
+ghost use Rattle.cx_lex.specs.Shapes.FirstCut.{next};
+ghost use Rattle.cx_lex.specs.FirstPieces.{after_byte, start};
 
-use crate::bytes::{is_blank, is_newline};
+use crate::first_bytes::{is_blank, is_newline};
 use cx_base::Place;
 
 /// Where a text or a piece begins, and what stands before it.
@@ -19,7 +19,7 @@ pub struct Spot {
 
 impl Spot {
     /// Where a source begins.
-    #[tactic(auto, unfolding(crate::specs::Pieces::start))]
+    #[tactic(auto, unfolding(crate::specs::FirstPieces::start))]
     pub fn start() -> Spot
         ensures { result ≡ start }
     {
@@ -35,7 +35,7 @@ impl Spot {
     }
 
     /// Where the next byte stands.
-    #[tactic(auto, unfolding(crate::specs::Cut::next))]
+    #[tactic(auto, unfolding(crate::specs::Shapes::FirstCut::next))]
     pub fn after(self, byte: u8) -> Spot
         requires line { self.place.line + 1 < 2 ^ 32 }
         requires column { self.place.column + 1 < 2 ^ 32 }
@@ -53,7 +53,7 @@ impl Spot {
 }
 
 // The place behind a byte.
-#[tactic(auto, unfolding(crate::specs::Pieces::after_byte))]
+#[tactic(auto, unfolding(crate::specs::FirstPieces::after_byte))]
 fn after_byte(at: Place, byte: u8) -> Place
     requires line { at.line + 1 < 2 ^ 32 }
     requires column { at.column + 1 < 2 ^ 32 }

@@ -4,7 +4,7 @@ use Rattle.cx_lex.proofs.cursor.next_character.Given as goal
 
 abbrev pub invariant-loop-more : goal.invariant-loop-more
 invariant-loop-more l =
-    (characters 0 l.place l.rest ≡ characters 0 l.fn.at l.bytes)
+    (characters l.place l.rest ≡ characters l.fn.at l.bytes)
     × (l.place.line + length l.rest < 2 ^ 32)
     × (l.place.column + length l.rest < 2 ^ 32)
 

@@ -1,8 +1,8 @@
 use Rattle.std.proofs.Common.{◌≡◌, ◌∙◌, Some, IfSome}
 use Rattle.std.proofs.lemmas.Result.{IfOk-weaker}
 use Rattle.cx_lex.specs.declared.first_lexer.State.TheVariants.{Between}
-use Rattle.cx_lex.specs.Cut.{cut}
-use Rattle.cx_lex.specs.Pieces.{FirstPieces, start}
+use Rattle.cx_lex.specs.Shapes.FirstCut.{cut}
+use Rattle.cx_lex.specs.FirstPieces.{FirstPieces, start}
 use Rattle.cx_lex.proofs.CutLaws.{complete_first}
 use Rattle.cx_lex.proofs.Sound.{some_fits}
 use Rattle.cx_lex.proofs.first_lexer.lex_first.Goals as goal

@@ -1,7 +1,7 @@
 use Rattle.std.proofs.Common.{◌≡◌, ◌≤◌, ◌+◌, length}
 use Rattle.cx_lex.specs.declared.first_lexer.State.TheVariants.{Between}
-use Rattle.cx_lex.specs.Cut.{cut, going}
-use Rattle.cx_lex.specs.Pieces.{start}
+use Rattle.cx_lex.specs.Shapes.FirstCut.{cut, going}
+use Rattle.cx_lex.specs.FirstPieces.{start}
 use Rattle.cx_lex.proofs.first_lexer.pieces_of.Given as goal
 
 abbrev pub invariant-loop-byte : goal.invariant-loop-byte

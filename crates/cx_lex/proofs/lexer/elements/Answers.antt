@@ -1,7 +1,7 @@
 use Rattle.std.proofs.Common.{[], ap, sym, subst, subst₂, ◌∙◌, ◌<◌, ◌≤◌, length, ◌∷◌, ◌++◌}
-use Rattle.cx_lex.specs.Behind.{behind_comment, behind_piece}
+use Rattle.cx_lex.specs.Shapes.After.{after_comment, after_piece}
 use Rattle.cx_lex.specs.declared.lexer.Lexed.{Lexed}
-use Rattle.cx_lex.specs.Fronts.{element_at, rest_of}
+use Rattle.cx_lex.specs.Shapes.Fronts.{element_at, rest_of}
 use Rattle.cx_lex.specs.Lexing.{lexed, too_long, unclosed_comment}
 use Rattle.cx_lex.specs.Lines.{file_characters, file_start}
 use Rattle.cx_lex.proofs.ElementSound.{element_sound}
@@ -15,7 +15,7 @@ elements-init c =
     let all = file_characters c.args.file c.args.bytes.now in
     subst (λ (l : Lexed). Onward all c.new-cursor.result c.args.limit c.at_start-before.result l.pieces l.comments) (sym c.new-lexed.ensures)
     (subst₂ (λ cs b. Onward all cs c.args.limit b [] []) (sym c.new-cursor.ensures) (sym c.at_start-before.ensures)
-    (onward_start all c.args.limit (well_characters c.args.bytes.now 0 (file_start c.args.file))))
+    (onward_start all c.args.limit (well_characters c.args.bytes.now (file_start c.args.file))))
 
 pub returns-in-AtEnd : goal.returns-in-AtEnd
 returns-in-AtEnd c =
@@ -34,7 +34,7 @@ returns-in-OpenComment c =
 pub returns-then-len-limit : goal.returns-then-len-limit
 returns-then-len-limit c =
     lexes_goes c.args.file c.args.limit c.args.bytes.now (too_long c.in-OfPiece.at)
-    (onward_long _ c.elements.cursor c.args.limit c.elements.before _ _ (element_at c.elements.before.directive c.elements.cursor) c.in-OfPiece.at c.in-OfPiece.kind c.in-OfPiece.text c.elements.invariant
+    (onward_long _ c.elements.cursor c.args.limit c.elements.before _ _ (element_at c.elements.before.directive c.elements.cursor) c.in-OfPiece.at c.in-OfPiece.kind c.in-OfPiece.spelled c.elements.invariant
     (element_sound c.elements.before c.elements.cursor c.elements.invariant.well)
     (sym c.in-OfPiece.is ∙ c.in_ok-front_element.ensures.front)
     (subst (λ n. c.args.limit ≤ n) c.len.ensures c.if-len-limit.true))
@@ -49,7 +49,7 @@ elements-smaller-in-Separator c =
 pub elements-preserved-in-Separator : goal.elements-preserved-in-Separator
 elements-preserved-in-Separator c =
     subst₂ (λ cs b. Onward (file_characters c.args.file c.args.bytes.now) cs c.args.limit b c.elements.lexed.pieces c.elements.lexed.comments)
-    (sym c.in_ok-front_element.ensures.rest) (sym c.behind_separator-before.ensures)
+    (sym c.in_ok-front_element.ensures.rest) (sym c.after_separator-before.ensures)
     (onward_separator _ c.elements.cursor c.args.limit c.elements.before _ _ (element_at c.elements.before.directive c.elements.cursor) c.in-Separator.newline c.elements.invariant
     (element_sound c.elements.before c.elements.cursor c.elements.invariant.well)
     (sym c.in-Separator.is ∙ c.in_ok-front_element.ensures.front))
@@ -69,15 +69,15 @@ elements-preserved-in-OfComment c =
     (element_sound c.elements.before c.elements.cursor c.elements.invariant.well)
     (sym c.in-OfComment.is ∙ c.in_ok-front_element.ensures.front) in
     subst₂ (λ cs b. Onward (file_characters c.args.file c.args.bytes.now) cs c.args.limit b c.elements.lexed.pieces c.push.new.self)
-    (sym c.in_ok-front_element.ensures.rest) (sym c.behind_comment-before.ensures)
+    (sym c.in_ok-front_element.ensures.rest) (sym c.after_comment-before.ensures)
     (subst
-    (λ ks. Onward (file_characters c.args.file c.args.bytes.now) (rest_of (element_at c.elements.before.directive c.elements.cursor)) c.args.limit (behind_comment c.elements.before) c.elements.lexed.pieces ks)
+    (λ ks. Onward (file_characters c.args.file c.args.bytes.now) (rest_of (element_at c.elements.before.directive c.elements.cursor)) c.args.limit (after_comment c.elements.before) c.elements.lexed.pieces ks)
     (sym (c.in_ok-push-in-OfComment.ensures.ok ∙ ap (λ k. c.elements.lexed.comments ++ k ∷ []) c.comment_of.ensures)) o)
 
 pub elements-smaller : goal.elements-smaller
 elements-smaller c =
     subst (λ t. length t < length c.elements.cursor) (sym c.in_ok-front_element.ensures.rest)
-    (piece_smaller c.elements.before c.elements.cursor (element_at c.elements.before.directive c.elements.cursor) c.in-OfPiece.at c.in-OfPiece.kind c.in-OfPiece.text
+    (piece_smaller c.elements.before c.elements.cursor (element_at c.elements.before.directive c.elements.cursor) c.in-OfPiece.at c.in-OfPiece.kind c.in-OfPiece.spelled
     (element_sound c.elements.before c.elements.cursor c.elements.invariant.well)
     (sym c.in-OfPiece.is ∙ c.in_ok-front_element.ensures.front))
 
@@ -85,13 +85,13 @@ pub elements-preserved : goal.elements-preserved
 elements-preserved c =
     let o =
     onward_piece _ c.elements.cursor c.args.limit c.elements.before _ _ (element_at c.elements.before.directive c.elements.cursor) c.in-OfPiece.at c.in-OfPiece.kind
-    c.in-OfPiece.text c.elements.invariant
+    c.in-OfPiece.spelled c.elements.invariant
     (element_sound c.elements.before c.elements.cursor c.elements.invariant.well)
     (sym c.in-OfPiece.is ∙ c.in_ok-front_element.ensures.front)
     (subst (λ n. n < c.args.limit) c.len.ensures c.if-len-limit.false) in
-    subst (λ cs. Onward (file_characters c.args.file c.args.bytes.now) cs c.args.limit c.behind_piece-next.result c.push-in-OfPiece.new.self c.elements.lexed.comments)
+    subst (λ cs. Onward (file_characters c.args.file c.args.bytes.now) cs c.args.limit c.after_piece-next.result c.push-in-OfPiece.new.self c.elements.lexed.comments)
     (sym c.in_ok-front_element.ensures.rest)
     (subst₂
     (λ b ps. Onward (file_characters c.args.file c.args.bytes.now) (rest_of (element_at c.elements.before.directive c.elements.cursor)) c.args.limit b ps c.elements.lexed.comments)
-    (sym (c.behind_piece-next.ensures ∙ ap (behind_piece c.elements.before c.in-OfPiece.kind) c.as_slice.ensures))
-    (sym (c.in_ok-push-in-OfPiece.ensures.ok ∙ ap (λ p. c.elements.lexed.pieces ++ p ∷ []) c.piece_of.ensures)) o)
+    (sym (c.after_piece-next.ensures ∙ ap (after_piece c.elements.before c.in-OfPiece.kind) c.as_slice.ensures))
+    (sym (c.in_ok-push-in-OfPiece.ensures.ok ∙ ap (λ p. c.elements.lexed.pieces ++ p ∷ []) c.in_ok-piece-in-OfPiece.ensures)) o)

@@ -1,6 +1,6 @@
 use Rattle.std.proofs.Common.{◌≡◌, ◌≤◌, length}
-use Rattle.cx_lex.specs.Cut.{digits_from}
-use Rattle.cx_lex.specs.Forms.{greatest}
+use Rattle.cx_lex.specs.Shapes.FirstCut.{digits_from}
+use Rattle.cx_lex.specs.FirstPieces.{greatest}
 use Rattle.cx_lex.proofs.number.digits_value.Given as goal
 
 abbrev pub invariant-loop-byte : goal.invariant-loop-byte

@@ -1,5 +1,5 @@
 use Rattle.std.proofs.Common.{◌≡◌, drop}
-use Rattle.cx_lex.specs.Scanning.{longest, words_of}
+use Rattle.cx_lex.specs.Shapes.Scanning.{longest, words_of}
 use Rattle.cx_lex.proofs.punctuator.longest_of.Given as goal
 
 abbrev pub invariant-loop-word : goal.invariant-loop-word

@@ -1,4 +1,5 @@
--- What the lexer computes, byte by byte.
+-- What the lexer of first texts computes, byte by byte: joined to FirstPieces by proofs/CutLaws and
+-- Sound.
 use Rattle.std.specs.Prelude.{ℕ, ◌+◌, ◌-◌, ◌*◌, List, [], ◌∷◌, ◌++◌, Bool, true, false, not, cond, ◌&&◌, ◌||◌, ◌==◌, nat_le, Option, Some, None, is_some}
 use Rattle.cx_lex.specs.declared.spot.Spot.{Spot}
 use Rattle.cx_lex.specs.declared.first_lexer.Lexer.{Lexer}
@@ -7,9 +8,10 @@ use Rattle.cx_lex.specs.declared.first_lexer.State.TheVariants.{Between, Word}
 use Rattle.cx_tokens.specs.declared.token.Kind.{Kind}
 use Rattle.cx_tokens.specs.declared.token.Kind.TheVariants.{Name, Number, Punct}
 use Rattle.cx_lex.specs.declared.piece.Piece.{Piece}
-use Rattle.cx_lex.specs.Characters.{is_blank, is_digit, is_mark, is_newline, is_word}
-use Rattle.cx_lex.specs.Forms.{greatest}
-use Rattle.cx_lex.specs.Pieces.{after_byte}
+use Rattle.cx_lex.specs.FirstPieces.{is_blank, is_mark, is_newline}
+use Rattle.cx_lex.specs.Characters.{is_digit, is_word}
+use Rattle.cx_lex.specs.FirstPieces.{greatest}
+use Rattle.cx_lex.specs.FirstPieces.{after_byte}
 
 -- whether a list has members
 abbrev pub is_longer : List ℕ → Bool
@@ -45,7 +47,7 @@ next spot b = record { place = after_byte spot.place b; space = is_blank b; firs
 
 -- a piece that begins at a spot
 unfoldable pub piece_of : Spot → Kind → List ℕ → Piece
-piece_of spot kind text = record { token = record { kind = kind; text = text; place = spot.place; hide = []; space = spot.space; parts = [] }; first_on_line = spot.first_on_line }
+piece_of spot kind text = record { token = record { kind = kind; text = text; place = spot.place; hide = []; space = spot.space; parts = []; digraph = false }; first_on_line = spot.first_on_line }
 
 -- one list behind the other, where neither is refused
 unfoldable pub joined : Option (List Piece) → Option (List Piece) → Option (List Piece)

@@ -1,7 +1,7 @@
 use Rattle.std.proofs.Common.{◌∙◌, sym}
-use Rattle.cx_lex.specs.Scanning.{longest, table}
+use Rattle.cx_lex.specs.Shapes.Scanning.{longest, table}
 use Rattle.cx_lex.proofs.Texts.{other_front, punct_front}
-use Rattle.cx_lex.proofs.front.mark.Goals as goal
+use Rattle.cx_lex.proofs.front.punctuator_or_byte.Goals as goal
 
 pub returns-in_default-clause-front : goal.returns-in_default-clause-front
 returns-in_default-clause-front c =

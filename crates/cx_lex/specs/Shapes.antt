@@ -1,0 +1,6 @@
+pub mod Walking
+pub mod Quotes
+pub mod Scanning
+pub mod Fronts
+pub mod After
+pub mod FirstCut
