@@ -5,20 +5,20 @@ use Rattle.cx_base.specs.declared.place.Place.{Place}
 use Rattle.cx_tokens.specs.declared.token.Token.{Token}
 use Rattle.cx_macro.specs.declared.fault.MacroFault.{MacroFault}
 use Rattle.cx_macro.specs.declared.fault.MacroFault.TheVariants.{TooManyTokens}
-use Rattle.cx_macro.specs.Expansion.{ArgumentsOutcome, Expands, ExpandsEach, ExpandsList, Outcome, Replaces, Replacement, all_expanded, argument_count, argument_fault, behind_argument, behind_token, definition_at, ends, expanded, function_like, no_more, no_replacement, not_expanded, not_wanted, object_like, one_refused, refused, replacement_of, stops, token_goes, token_stays, too_long, too_many, unclosed_call, wanted, within}
+use Rattle.cx_macro.specs.Expansion.{ArgumentsOutcome, Expands, ExpandsEach, ExpandsList, Outcome, Replaces, Replacement, all_expanded, argument_count, argument_fault, preceded_by_argument, preceded_by_token, definition_at, ends, expanded, function_like, no_more, not_a_macro, no_replacement, not_expanded, not_wanted, object_like, one_refused, refused, replacement_of, stops, token_goes, token_stays, too_long, too_many, unclosed_call, wanted, within}
 use Rattle.cx_macro.specs.Macros.{Table}
-use Rattle.cx_macro.proofs.UseLaws.{use_none}
+use Rattle.cx_macro.proofs.InvocationLaws.{use_none}
 
 nothing : (table : Table) (bound laid : ℕ) (list : List Token) → All (λ t. definition_at table t ≡ None) list → Expands table bound laid list (expanded list laid)
 nothing table bound laid [] h = ends
-nothing table bound laid (t ∷ rest) h = token_stays (use_none table t rest (All-head (λ x. definition_at table x ≡ None) t rest h))
+nothing table bound laid (t ∷ rest) h = token_stays (not_a_macro (All-head (λ x. definition_at table x ≡ None) t rest h))
     (nothing table bound laid rest (All-tail (λ x. definition_at table x ≡ None) t rest h))
 
 pub nothing_replaced : (table : Table) (bound laid : ℕ) (list : List Token) → All (λ t. definition_at table t ≡ None) list → laid + length list ≤ bound
     → ExpandsList table bound laid list (expanded list (laid + length list))
 nothing_replaced table bound laid list h le = within le (nothing table bound (laid + length list) list h)
 
-behind_expanded : (t : Token) (o : Outcome) (made : List Token) (after : ℕ) → behind_token t o ≡ expanded made after → (ts : List Token) × (o ≡ expanded ts after)
+behind_expanded : (t : Token) (o : Outcome) (made : List Token) (after : ℕ) → preceded_by_token t o ≡ expanded made after → (ts : List Token) × (o ≡ expanded ts after)
 behind_expanded t (expanded ts n) made after e = let same : n ≡ after = cc in (ts, ap (expanded ts) same)
 behind_expanded t (refused fault) made after e = absurd cc
 
@@ -39,11 +39,11 @@ list_below made after (too_long lt) e = absurd cc
 pub met : (table : Table) (bound laid : ℕ) (list made : List Token) (after : ℕ) → ExpandsList table bound laid list (expanded made after) → after ≤ bound
 met table bound laid list made after h = list_below made after h refl
 
-behind_refused : (t : Token) (o : Outcome) (fault : MacroFault) → behind_token t o ≡ refused fault → o ≡ refused fault
+behind_refused : (t : Token) (o : Outcome) (fault : MacroFault) → preceded_by_token t o ≡ refused fault → o ≡ refused fault
 behind_refused t (expanded ts n) fault e = absurd cc
 behind_refused t (refused other) fault e = e
 
-behind_one_refused : (ts : List Token) (o : ArgumentsOutcome) (fault : MacroFault) → behind_argument ts o ≡ one_refused fault → o ≡ one_refused fault
+behind_one_refused : (ts : List Token) (o : ArgumentsOutcome) (fault : MacroFault) → preceded_by_argument ts o ≡ one_refused fault → o ≡ one_refused fault
 behind_one_refused ts (all_expanded more n) fault e = absurd cc
 behind_one_refused ts (one_refused other) fault e = e
 
@@ -67,7 +67,7 @@ mutual
   replaces_past at n (unclosed_call u) e = absurd cc
   replaces_past at n (argument_count d ps b u a) e = absurd cc
   replaces_past at n (argument_fault d ps b raw fault u a h) e = let same : fault ≡ TooManyTokens at n = cc in each_past at n h (ap one_refused same)
-  replaces_past at n (function_like {t = t} d ps b raw done after made u a h g) e = absurd (glued_in_room t _ b.behind after made at n e)
+  replaces_past at n (function_like {t = t} d ps b raw done after made u a h g) e = absurd (glued_in_room t _ b.after after made at n e)
 
   each_past : {table : Table} {bound laid : ℕ} {arguments : List (Bool × List Token)} {o : ArgumentsOutcome} (at : Place) (n : ℕ)
       → ExpandsEach table bound laid arguments o → o ≡ one_refused (TooManyTokens at n) → bound < n

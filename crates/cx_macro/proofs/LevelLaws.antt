@@ -1,12 +1,14 @@
 -- A list of tokens of which a front is done, and what the edits at the end of that front make of it.
-use Rattle.std.proofs.Common.{◌≡◌, ℕ, Bool, true, false, cond, ◌==◌, ◌||◌, List, [], ◌∷◌, ◌++◌, map, Option, Some, None, refl, sym, ◌∙◌, ap, ap₂, subst, IfSome, ⊎_elim, append_assoc, arith}
-use Rattle.std.proofs.lemmas.List.{map-append}
+use Rattle.std.proofs.Common.{◌≡◌, ℕ, Bool, true, false, cond, ◌==◌, ◌||◌, List, [], ◌∷◌, ◌++◌, map, option_map, Option, Some, None, refl, sym, ◌∙◌, ap, ap₂, subst, IfSome, ⊎_elim, append_assoc, arith}
+use Rattle.std.proofs.lemmas.List.{append-nil, map-append}
+use Rattle.std.proofs.lemmas.List.Elements.{All-append, All-cons, All-head, All-nil, All-tail}
+use Rattle.cx_macro.specs.Partners.{HasNoPartners}
 use Rattle.std.proofs.lemmas.Bool.{cases_Bool, both_ways}
 use Rattle.std.proofs.lemmas.Bool.Decides.{nat_tests}
 use Rattle.cx_tokens.specs.declared.token.Token.{Token}
-use Rattle.cx_tokens.specs.Nodes.{IsTokenList, TokenNode, before, behind, erased, first_of, inserted, is_live, live_partner, node_of, settled, tokens, up_to}
+use Rattle.cx_tokens.specs.Nodes.{IsTokenList, TokenNode, nodes_before, nodes_after, erased, first_of, inserted, is_live, live_partner, node_of, with_live_partners, token_of, tokens, nodes_to}
 use Rattle.cx_tokens.proofs.NodeLaws.{IsNumbered, dead_parts, found, live_left, numbered_apart}
-use Rattle.cx_macro.specs.Levels.{nodes_ahead, nodes_done}
+use Rattle.cx_macro.specs.Shapes.Levels.{nodes_ahead, nodes_done}
 
 -- the last node that is done is one of the list
 abbrev pub IsLast : Option ℕ → List TokenNode → Type 0
@@ -16,8 +18,8 @@ same_number : (n : ℕ) → (n == n) ≡ true
 same_number n = grind (arith, nat_tests)
 
 -- a node of a front, with a rest behind it
-up_to_front : (n : ℕ) (front rest : List TokenNode) → is_live n front ≡ true → up_to n (front ++ rest) ≡ up_to n front
-unfolding up_to
+up_to_front : (n : ℕ) (front rest : List TokenNode) → is_live n front ≡ true → nodes_to n (front ++ rest) ≡ nodes_to n front
+unfolding nodes_to
 up_to_front n [] rest l = absurd cc
 up_to_front n (x ∷ xs) rest l =
     ⊎_elim
@@ -25,8 +27,8 @@ up_to_front n (x ∷ xs) rest l =
     (λ (e : (x.number == n) ≡ false). rw e (ap (λ t. x ∷ t) (up_to_front n xs rest (sym (ap (λ t. t || is_live n xs) e) ∙ l))))
     (cases_Bool (x.number == n))
 
-behind_front : (n : ℕ) (front rest : List TokenNode) → is_live n front ≡ true → behind n (front ++ rest) ≡ behind n front ++ rest
-unfolding behind
+behind_front : (n : ℕ) (front rest : List TokenNode) → is_live n front ≡ true → nodes_after n (front ++ rest) ≡ nodes_after n front ++ rest
+unfolding nodes_after
 behind_front n [] rest l = absurd cc
 behind_front n (x ∷ xs) rest l =
     ⊎_elim
@@ -34,17 +36,17 @@ behind_front n (x ∷ xs) rest l =
     (λ (e : (x.number == n) ≡ false). rw e (behind_front n xs rest (sym (ap (λ t. t || is_live n xs) e) ∙ l)))
     (cases_Bool (x.number == n))
 
-up_to_live : (n : ℕ) (xs : List TokenNode) → is_live n xs ≡ true → is_live n (up_to n xs) ≡ true
-unfolding up_to
+up_to_live : (n : ℕ) (xs : List TokenNode) → is_live n xs ≡ true → is_live n (nodes_to n xs) ≡ true
+unfolding nodes_to
 up_to_live n [] l = absurd cc
 up_to_live n (x ∷ xs) l =
     ⊎_elim
     (λ (e : (x.number == n) ≡ true). rw e (ap (λ t. t || false) e))
-    (λ (e : (x.number == n) ≡ false). rw e (ap (λ t. t || is_live n (up_to n xs)) e ∙ up_to_live n xs (sym (ap (λ t. t || is_live n xs) e) ∙ l)))
+    (λ (e : (x.number == n) ≡ false). rw e (ap (λ t. t || is_live n (nodes_to n xs)) e ∙ up_to_live n xs (sym (ap (λ t. t || is_live n xs) e) ∙ l)))
     (cases_Bool (x.number == n))
 
-up_to_twice : (n : ℕ) (xs : List TokenNode) → up_to n (up_to n xs) ≡ up_to n xs
-unfolding up_to
+up_to_twice : (n : ℕ) (xs : List TokenNode) → nodes_to n (nodes_to n xs) ≡ nodes_to n xs
+unfolding nodes_to
 up_to_twice n [] = refl
 up_to_twice n (x ∷ xs) =
     ⊎_elim
@@ -52,8 +54,8 @@ up_to_twice n (x ∷ xs) =
     (λ (e : (x.number == n) ≡ false). rw e (rw e (ap (λ t. x ∷ t) (up_to_twice n xs))))
     (cases_Bool (x.number == n))
 
-behind_up_to : (n : ℕ) (xs : List TokenNode) → behind n (up_to n xs) ≡ []
-unfolding up_to behind
+behind_up_to : (n : ℕ) (xs : List TokenNode) → nodes_after n (nodes_to n xs) ≡ []
+unfolding nodes_to nodes_after
 behind_up_to n [] = refl
 behind_up_to n (x ∷ xs) =
     ⊎_elim
@@ -62,37 +64,37 @@ behind_up_to n (x ∷ xs) =
     (cases_Bool (x.number == n))
 
 -- the node with a number that stands behind a front
-up_to_at : (front rest : List TokenNode) (x : TokenNode) → is_live x.number front ≡ false → up_to x.number (front ++ x ∷ rest) ≡ front ++ x ∷ []
-unfolding up_to
-up_to_at [] rest x l = ap (λ b. cond b (x ∷ []) (x ∷ up_to x.number rest)) (same_number x.number)
+up_to_at : (front rest : List TokenNode) (x : TokenNode) → is_live x.number front ≡ false → nodes_to x.number (front ++ x ∷ rest) ≡ front ++ x ∷ []
+unfolding nodes_to
+up_to_at [] rest x l = ap (λ b. cond b (x ∷ []) (x ∷ nodes_to x.number rest)) (same_number x.number)
 up_to_at (y ∷ ys) rest x l =
     let p = dead_parts x.number (y ∷ []) ys l in
     let e : (y.number == x.number) ≡ false = head_dead (y.number == x.number) p.0 in
-    ap (λ b. cond b (y ∷ []) (y ∷ up_to x.number (ys ++ x ∷ rest))) e ∙ ap (λ t. y ∷ t) (up_to_at ys rest x p.1)
+    ap (λ b. cond b (y ∷ []) (y ∷ nodes_to x.number (ys ++ x ∷ rest))) e ∙ ap (λ t. y ∷ t) (up_to_at ys rest x p.1)
   where
     head_dead : (b : Bool) → (b || false) ≡ false → b ≡ false
     head_dead true h = absurd cc
     head_dead false h = refl
 
-behind_at : (front rest : List TokenNode) (x : TokenNode) → is_live x.number front ≡ false → behind x.number (front ++ x ∷ rest) ≡ rest
-unfolding behind
-behind_at [] rest x l = ap (λ b. cond b rest (behind x.number rest)) (same_number x.number)
+behind_at : (front rest : List TokenNode) (x : TokenNode) → is_live x.number front ≡ false → nodes_after x.number (front ++ x ∷ rest) ≡ rest
+unfolding nodes_after
+behind_at [] rest x l = ap (λ b. cond b rest (nodes_after x.number rest)) (same_number x.number)
 behind_at (y ∷ ys) rest x l =
     let p = dead_parts x.number (y ∷ []) ys l in
     let e : (y.number == x.number) ≡ false = head_dead (y.number == x.number) p.0 in
-    ap (λ b. cond b (ys ++ x ∷ rest) (behind x.number (ys ++ x ∷ rest))) e ∙ behind_at ys rest x p.1
+    ap (λ b. cond b (ys ++ x ∷ rest) (nodes_after x.number (ys ++ x ∷ rest))) e ∙ behind_at ys rest x p.1
   where
     head_dead : (b : Bool) → (b || false) ≡ false → b ≡ false
     head_dead true h = absurd cc
     head_dead false h = refl
 
-before_at : (front rest : List TokenNode) (x : TokenNode) → is_live x.number front ≡ false → before x.number (front ++ x ∷ rest) ≡ front
-unfolding before
-before_at [] rest x l = ap (λ b. cond b [] (x ∷ before x.number rest)) (same_number x.number)
+before_at : (front rest : List TokenNode) (x : TokenNode) → is_live x.number front ≡ false → nodes_before x.number (front ++ x ∷ rest) ≡ front
+unfolding nodes_before
+before_at [] rest x l = ap (λ b. cond b [] (x ∷ nodes_before x.number rest)) (same_number x.number)
 before_at (y ∷ ys) rest x l =
     let p = dead_parts x.number (y ∷ []) ys l in
     let e : (y.number == x.number) ≡ false = head_dead (y.number == x.number) p.0 in
-    ap (λ b. cond b [] (y ∷ before x.number (ys ++ x ∷ rest))) e ∙ ap (λ t. y ∷ t) (before_at ys rest x p.1)
+    ap (λ b. cond b [] (y ∷ nodes_before x.number (ys ++ x ∷ rest))) e ∙ ap (λ t. y ∷ t) (before_at ys rest x p.1)
   where
     head_dead : (b : Bool) → (b || false) ≡ false → b ≡ false
     head_dead true h = absurd cc
@@ -103,19 +105,19 @@ pub whole : (last : Option ℕ) (nodes : List TokenNode) → IsLast last nodes �
 whole None nodes l = refl
 whole (Some n) nodes l =
     let f = found n nodes l in
-    f.whole ∙ (sym (append_assoc (before n nodes) (f.node ∷ []) (behind n nodes)) ∙ ap (λ t. t ++ behind n nodes) (sym f.up_there))
+    f.whole ∙ (sym (append_assoc (nodes_before n nodes) (f.node ∷ []) (nodes_after n nodes)) ∙ ap (λ t. t ++ nodes_after n nodes) (sym f.up_there))
 
 done_again : (last : Option ℕ) (nodes rest : List TokenNode) → IsLast last nodes → nodes_done last (nodes_done last nodes ++ rest) ≡ nodes_done last nodes
 done_again None nodes rest l = refl
-done_again (Some n) nodes rest l = up_to_front n (up_to n nodes) rest (up_to_live n nodes l) ∙ up_to_twice n nodes
+done_again (Some n) nodes rest l = up_to_front n (nodes_to n nodes) rest (up_to_live n nodes l) ∙ up_to_twice n nodes
 
 ahead_again : (last : Option ℕ) (nodes rest : List TokenNode) → IsLast last nodes → nodes_ahead last (nodes_done last nodes ++ rest) ≡ rest
 ahead_again None nodes rest l = refl
-ahead_again (Some n) nodes rest l = behind_front n (up_to n nodes) rest (up_to_live n nodes l) ∙ ap (λ t. t ++ rest) (behind_up_to n nodes)
+ahead_again (Some n) nodes rest l = behind_front n (nodes_to n nodes) rest (up_to_live n nodes l) ∙ ap (λ t. t ++ rest) (behind_up_to n nodes)
 
 last_again : (last : Option ℕ) (nodes rest : List TokenNode) → IsLast last nodes → IsLast last (nodes_done last nodes ++ rest)
 last_again None nodes rest l = tt
-last_again (Some n) nodes rest l = live_left n (up_to n nodes) rest (up_to_live n nodes l)
+last_again (Some n) nodes rest l = live_left n (nodes_to n nodes) rest (up_to_live n nodes l)
 
 inserted_is : (last : Option ℕ) (x : TokenNode) (nodes : List TokenNode) → inserted last x nodes ≡ nodes_done last nodes ++ x ∷ nodes_ahead last nodes
 inserted_is None x nodes = refl
@@ -144,16 +146,16 @@ not_done last nodes n l h =
 
 -- a node is put behind those done, as one of them
 pub keep_done : (last : Option ℕ) (x : TokenNode) (nodes new : List TokenNode) → new ≡ inserted last x nodes → IsLast last nodes → ¬ (is_live x.number nodes ≡ true)
-    → tokens (up_to x.number new) ≡ tokens (nodes_done last nodes) ++ x.token ∷ []
+    → tokens (nodes_to x.number new) ≡ tokens (nodes_done last nodes) ++ x.token ∷ []
 keep_done last x nodes new e l h =
-    ap (λ t. tokens (up_to x.number t)) (e ∙ inserted_is last x nodes)
+    ap (λ t. tokens (nodes_to x.number t)) (e ∙ inserted_is last x nodes)
     ∙ (ap tokens (up_to_at (nodes_done last nodes) (nodes_ahead last nodes) x (not_done last nodes x.number l h))
     ∙ map-append (λ (y : TokenNode). y.token) (nodes_done last nodes) (x ∷ []))
 
 pub keep_ahead : (last : Option ℕ) (x : TokenNode) (nodes new : List TokenNode) → new ≡ inserted last x nodes → IsLast last nodes → ¬ (is_live x.number nodes ≡ true)
-    → tokens (behind x.number new) ≡ tokens (nodes_ahead last nodes)
+    → tokens (nodes_after x.number new) ≡ tokens (nodes_ahead last nodes)
 keep_ahead last x nodes new e l h =
-    ap (λ t. tokens (behind x.number t)) (e ∙ inserted_is last x nodes)
+    ap (λ t. tokens (nodes_after x.number t)) (e ∙ inserted_is last x nodes)
     ∙ ap tokens (behind_at (nodes_done last nodes) (nodes_ahead last nodes) x (not_done last nodes x.number l h))
 
 -- nodes with other partners
@@ -164,8 +166,8 @@ tokens_kept : (all xs : List TokenNode) → tokens (kept_in all xs) ≡ tokens x
 tokens_kept all [] = refl
 tokens_kept all (x ∷ xs) = ap (λ t. x.token ∷ t) (tokens_kept all xs)
 
-up_to_kept : (n : ℕ) (all xs : List TokenNode) → up_to n (kept_in all xs) ≡ kept_in all (up_to n xs)
-unfolding up_to
+up_to_kept : (n : ℕ) (all xs : List TokenNode) → nodes_to n (kept_in all xs) ≡ kept_in all (nodes_to n xs)
+unfolding nodes_to
 up_to_kept n all [] = refl
 up_to_kept n all (x ∷ xs) =
     ⊎_elim
@@ -173,8 +175,8 @@ up_to_kept n all (x ∷ xs) =
     (λ (e : (x.number == n) ≡ false). rw e (ap (λ t. (record { number = x.number; token = x.token; partner = live_partner all x.partner }) ∷ t) (up_to_kept n all xs)))
     (cases_Bool (x.number == n))
 
-behind_kept : (n : ℕ) (all xs : List TokenNode) → behind n (kept_in all xs) ≡ kept_in all (behind n xs)
-unfolding behind
+behind_kept : (n : ℕ) (all xs : List TokenNode) → nodes_after n (kept_in all xs) ≡ kept_in all (nodes_after n xs)
+unfolding nodes_after
 behind_kept n all [] = refl
 behind_kept n all (x ∷ xs) =
     ⊎_elim
@@ -188,15 +190,32 @@ live_kept n all (x ∷ xs) = ap (λ t. (x.number == n) || t) (live_kept n all xs
 
 done_kept : (last : Option ℕ) (all xs : List TokenNode) → tokens (nodes_done last (kept_in all xs)) ≡ tokens (nodes_done last xs)
 done_kept None all xs = refl
-done_kept (Some n) all xs = ap tokens (up_to_kept n all xs) ∙ tokens_kept all (up_to n xs)
+done_kept (Some n) all xs = ap tokens (up_to_kept n all xs) ∙ tokens_kept all (nodes_to n xs)
 
 ahead_kept : (last : Option ℕ) (all xs : List TokenNode) → tokens (nodes_ahead last (kept_in all xs)) ≡ tokens (nodes_ahead last xs)
 ahead_kept None all xs = tokens_kept all xs
-ahead_kept (Some n) all xs = ap tokens (behind_kept n all xs) ∙ tokens_kept all (behind n xs)
+ahead_kept (Some n) all xs = ap tokens (behind_kept n all xs) ∙ tokens_kept all (nodes_after n xs)
 
 last_kept : (last : Option ℕ) (all xs : List TokenNode) → IsLast last xs → IsLast last (kept_in all xs)
 last_kept None all xs l = tt
 last_kept (Some n) all xs l = live_kept n all xs ∙ l
+
+-- the nodes that are done have no partners
+abbrev pub IsDoneAlone : Option ℕ → List TokenNode → Type 0
+IsDoneAlone last nodes = HasNoPartners (nodes_done last nodes)
+
+abbrev IsAlone : TokenNode → Type 0
+IsAlone x = x.partner ≡ None
+
+kept_alone : (all xs : List TokenNode) → HasNoPartners xs → HasNoPartners (kept_in all xs)
+kept_alone all [] h = All-nil _
+kept_alone all (x ∷ xs) h =
+    All-cons IsAlone (record { number = x.number; token = x.token; partner = live_partner all x.partner }) (kept_in all xs)
+    (ap (live_partner all) {x = x.partner} {y = None} (All-head IsAlone x xs h)) (kept_alone all xs (All-tail IsAlone x xs h))
+
+done_kept_in : (last : Option ℕ) (all xs : List TokenNode) → nodes_done last (kept_in all xs) ≡ kept_in all (nodes_done last xs)
+done_kept_in None all xs = refl
+done_kept_in (Some n) all xs = up_to_kept n all xs
 
 -- The first node ahead.
 pub record First (last : Option ℕ) (nodes : List TokenNode) (n : ℕ) : Type 0 where
@@ -204,7 +223,7 @@ pub record First (last : Option ℕ) (nodes : List TokenNode) (n : ℕ) : Type 0
   pub rest : List TokenNode
   pub ahead : nodes_ahead last nodes ≡ node ∷ rest
   pub is_node : node_of n nodes ≡ Some node
-  pub erased_is : erased n nodes ≡ settled (nodes_done last nodes ++ rest)
+  pub erased_is : erased n nodes ≡ with_live_partners (nodes_done last nodes ++ rest)
 
 node_at : (front rest : List TokenNode) (x : TokenNode) → is_live x.number front ≡ false → node_of x.number (front ++ x ∷ rest) ≡ Some x
 node_at [] rest x l = ap (λ b. cond b (Some x) (node_of x.number rest)) (same_number x.number)
@@ -233,7 +252,7 @@ first_at last nodes x rest k l e =
       rest = rest;
       ahead = e;
       is_node = ap (node_of x.number) w ∙ node_at front rest x f;
-      erased_is = ap settled (ap₂ (λ a b. a ++ b) (ap (before x.number) w ∙ before_at front rest x f) (ap (behind x.number) w ∙ behind_at front rest x f));
+      erased_is = ap with_live_partners (ap₂ (λ a b. a ++ b) (ap (nodes_before x.number) w ∙ before_at front rest x f) (ap (nodes_after x.number) w ∙ behind_at front rest x f));
     }
 
 pub first_is : (last : Option ℕ) (nodes : List TokenNode) (n : ℕ) → IsTokenList nodes → IsLast last nodes → Some n ≡ first_of (nodes_ahead last nodes) → First last nodes n
@@ -243,29 +262,64 @@ first_is last nodes n k l e = by (nodes_ahead last nodes) refl e
     by [] a e = absurd cc
     by (x ∷ rest) a e = let s : x.number ≡ n = cc in subst (First last nodes) s (first_at last nodes x rest k l a)
 
-pub first_ahead : (last : Option ℕ) (nodes : List TokenNode) (n : ℕ) (t : Token) (f : First last nodes n) → IfSome (node_of n nodes) (λ x. t ≡ x.token)
+pub token_at : (n : ℕ) (nodes : List TokenNode) (t : Token) (x : TokenNode) → node_of n nodes ≡ Some x → token_of n nodes ≡ Some t → t ≡ x.token
+token_at n nodes t x e h =
+    let f : token_of n nodes ≡ Some x.token = ap (option_map (λ (y : TokenNode). y.token)) e in
+    cc
+
+pub first_ahead : (last : Option ℕ) (nodes : List TokenNode) (n : ℕ) (t : Token) (f : First last nodes n) → token_of n nodes ≡ Some t
     → tokens (nodes_ahead last nodes) ≡ t ∷ tokens f.rest
 first_ahead last nodes n t f h =
-    let s : t ≡ f.node.token = subst (λ o. IfSome o (λ x. t ≡ x.token)) f.is_node h in
+    let s = token_at n nodes t f.node f.is_node h in
     ap tokens f.ahead ∙ ap (λ y. y ∷ tokens f.rest) (sym s)
 
 -- the first node ahead is taken out
 pub pop_last : (last : Option ℕ) (nodes new : List TokenNode) (n : ℕ) → First last nodes n → IsLast last nodes → new ≡ erased n nodes → IsLast last new
-unfolding settled
+unfolding with_live_partners
 pop_last last nodes new n f l e =
     subst (IsLast last) (sym (e ∙ f.erased_is)) (last_kept last (nodes_done last nodes ++ f.rest) (nodes_done last nodes ++ f.rest) (last_again last nodes f.rest l))
 
 pub pop_done : (last : Option ℕ) (nodes new : List TokenNode) (n : ℕ) → First last nodes n → IsLast last nodes → new ≡ erased n nodes
     → tokens (nodes_done last new) ≡ tokens (nodes_done last nodes)
-unfolding settled
+unfolding with_live_partners
 pop_done last nodes new n f l e =
     ap (λ t. tokens (nodes_done last t)) (e ∙ f.erased_is) ∙ (done_kept last (nodes_done last nodes ++ f.rest) (nodes_done last nodes ++ f.rest) ∙ ap tokens (done_again last nodes f.rest l))
 
 pub pop_ahead : (last : Option ℕ) (nodes new : List TokenNode) (n : ℕ) (t : Token) (f : First last nodes n) → IsLast last nodes → new ≡ erased n nodes
-    → IfSome (node_of n nodes) (λ x. t ≡ x.token) → tokens (nodes_ahead last nodes) ≡ t ∷ tokens (nodes_ahead last new)
-unfolding settled
+    → token_of n nodes ≡ Some t → tokens (nodes_ahead last nodes) ≡ t ∷ tokens (nodes_ahead last new)
+unfolding with_live_partners
 pop_ahead last nodes new n t f l e h =
-    let s : t ≡ f.node.token = subst (λ o. IfSome o (λ x. t ≡ x.token)) f.is_node h in
+    let s = token_at n nodes t f.node f.is_node h in
     let r : tokens (nodes_ahead last new) ≡ tokens f.rest =
     ap (λ y. tokens (nodes_ahead last y)) (e ∙ f.erased_is) ∙ (ahead_kept last (nodes_done last nodes ++ f.rest) (nodes_done last nodes ++ f.rest) ∙ ap tokens (ahead_again last nodes f.rest l)) in
     ap tokens f.ahead ∙ ap₂ (λ a b. a ∷ b) (sym s) (sym r)
+
+-- what the edits make of the nodes that are done has no partners
+pub put_alone : (last : Option ℕ) (x : TokenNode) (nodes new : List TokenNode) → new ≡ inserted last x nodes → IsLast last nodes → IsDoneAlone last nodes
+    → IsDoneAlone last new
+put_alone last x nodes new e l h =
+    subst HasNoPartners (sym (ap (nodes_done last) (e ∙ inserted_is last x nodes) ∙ done_again last nodes (x ∷ nodes_ahead last nodes) l)) h
+
+pub keep_alone : (last : Option ℕ) (x : TokenNode) (nodes new : List TokenNode) → new ≡ inserted last x nodes → IsLast last nodes → ¬ (is_live x.number nodes ≡ true)
+    → x.partner ≡ None → IsDoneAlone last nodes → HasNoPartners (nodes_to x.number new)
+keep_alone last x nodes new e l h n a =
+    subst HasNoPartners
+    (sym (ap (nodes_to x.number) (e ∙ inserted_is last x nodes) ∙ up_to_at (nodes_done last nodes) (nodes_ahead last nodes) x (not_done last nodes x.number l h)))
+    (All-append IsAlone (nodes_done last nodes) (x ∷ []) a (All-cons IsAlone x [] n (All-nil IsAlone)))
+
+pub pop_alone : (last : Option ℕ) (nodes new : List TokenNode) (n : ℕ) → First last nodes n → IsLast last nodes → new ≡ erased n nodes → IsDoneAlone last nodes
+    → IsDoneAlone last new
+unfolding with_live_partners
+pop_alone last nodes new n f l e a =
+    let all = nodes_done last nodes ++ f.rest in
+    subst HasNoPartners
+    (sym (ap (nodes_done last) (e ∙ f.erased_is) ∙ (done_kept_in last all all ∙ ap (kept_in all) (done_again last nodes f.rest l))))
+    (kept_alone all (nodes_done last nodes) a)
+
+no_node : (nodes : List TokenNode) → tokens nodes ≡ [] → nodes ≡ []
+no_node [] e = refl
+no_node (x ∷ xs) e = absurd cc
+
+pub end_alone : (last : Option ℕ) (nodes : List TokenNode) → IsLast last nodes → IsDoneAlone last nodes → tokens (nodes_ahead last nodes) ≡ [] → HasNoPartners nodes
+end_alone last nodes l a e =
+    subst HasNoPartners (sym (whole last nodes l ∙ (ap (λ t. nodes_done last nodes ++ t) (no_node (nodes_ahead last nodes) e) ∙ append-nil (nodes_done last nodes)))) a

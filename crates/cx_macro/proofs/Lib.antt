@@ -6,11 +6,17 @@ pub mod PieceLaws
 pub mod DefinableLaws
 pub mod ExistenceLaws
 pub mod LevelLaws
-pub mod PartLaws
+mod ReplacementExamples
+pub mod RoleLaws
+pub mod StringLaws
+pub mod SubstituteLaws
 pub mod PastingLaws
 pub mod ProgressLaws
 pub mod StepLaws
 pub mod TableLaws
-pub mod UseLaws
+pub mod CountingLaws
+pub mod InvocationLaws
+pub mod HideLaws
+mod Examples
 pub mod WalkLaws
 pub mod SegmentLaws

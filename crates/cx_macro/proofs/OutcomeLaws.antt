@@ -3,15 +3,18 @@ use Rattle.std.proofs.Common.{◌≡◌, ℕ, ◌+◌, Bool, List, [], ◌∷◌
 use Rattle.std.proofs.lemmas.List.{same_from_push}
 use Rattle.cx_tokens.specs.declared.token.Kind.{Kind}
 use Rattle.cx_tokens.specs.declared.token.Token.{Token}
+use Rattle.cx_tokens.specs.Digraphs.{spelling_of}
 use Rattle.cx_lex.specs.Lexing.{IsOnePiece}
 use Rattle.cx_macro.specs.declared.fault.MacroFault.{MacroFault}
 use Rattle.cx_macro.specs.declared.fault.MacroFault.TheVariants.{ArgumentCount, TooManyTokens, UnclosedCall}
-use Rattle.cx_macro.specs.Arguments.{Bracketed, arguments_of}
+use Rattle.cx_macro.specs.Arguments.{no_arguments, AreArguments, Arguments, Bracketed}
+use Rattle.cx_macro.proofs.CountingLaws.{arguments_same}
+use Rattle.cx_macro.proofs.InvocationLaws.{invocation_same}
 use Rattle.cx_macro.specs.Hiding.{common, with_name}
 use Rattle.cx_macro.specs.Macros.{Definition, Table}
 use Rattle.cx_macro.specs.Replacement as by
-use Rattle.cx_macro.specs.Replacement.{Glues, Joins, JoinsSides, Part, paste, tokens, tokens_of, put_behind, parts_of, other}
-use Rattle.cx_macro.specs.Expansion.{ArgumentsOutcome, Expands, ExpandsEach, ExpandsList, Outcome, Replaces, Replacement, all_expanded, argument_count, argument_fault, behind_argument, behind_token, called, ends, function_like, no_more, no_replacement, not_expanded, not_wanted, object_like, one_refused, refused, replaced, replacement_of, stays, stops, token_goes, token_stays, too_long, too_many, unclosed, unclosed_call, use_of, wanted, wanted_from, within}
+use Rattle.cx_macro.specs.Replacement.{Glues, Joins, JoinsSides, Substitute, paste_operator, operand, tokens_of, preceded_by, substitutes_of}
+use Rattle.cx_macro.specs.Expansion.{ArgumentsOutcome, Expands, ExpandsEach, ExpandsList, IsInvocation, Outcome, Replaces, Replacement, all_expanded, argument_count, argument_fault, preceded_by_argument, preceded_by_token, of_function, ends, function_like, no_more, no_replacement, not_expanded, not_wanted, object_like, one_refused, refused, of_object, replacement_of, no_invocation, stops, token_goes, token_stays, too_long, too_many, unclosed, unclosed_call, wanted, wanted_from, within}
 
 -- at most one kind and text are those of a piece
 abbrev pub OnePiece : Type 0
@@ -20,7 +23,7 @@ OnePiece = (bytes : List ℕ) (kind other_kind : Kind) (text other_text : List �
 
 pub joins_same : {a b : Token} {c d : Option Token} → OnePiece → Joins a b c → Joins a b d → c ≡ d
 joins_same {a} {b} one (by.one_piece kind text h) (by.one_piece kind' text' h') =
-    let e = one (a.text ++ b.text) kind kind' text text' h h' in cc
+    let e = one (spelling_of a ++ spelling_of b) kind kind' text text' h h' in cc
 joins_same one (by.one_piece kind text h) (by.no_piece n) = absurd (n kind text h)
 joins_same one (by.no_piece n) (by.one_piece kind text h) = absurd (n kind text h)
 joins_same one (by.no_piece n) (by.no_piece m) = refl
@@ -75,61 +78,61 @@ sides_same {left} {right} one (by.unjoined a b front rest e f j) (by.joined a' b
     absurd cc
 sides_same one (by.unjoined a b front rest e f j) (by.unjoined a' b' front' rest' e' f' j') = refl
 
-pub glues_same : {left : List Token} {parts : List Part} {c d : Option (List Token)} → OnePiece → Glues left parts c → Glues left parts d → c ≡ d
+pub glues_same : {left : List Token} {ss : List Substitute} {c d : Option (List Token)} → OnePiece → Glues left ss c → Glues left ss d → c ≡ d
 glues_same one by.ends by.ends = refl
 glues_same one by.ends_with_paste by.ends_with_paste = refl
-glues_same {d = d} one (by.pastes {ps = ps} both j g) (by.pastes both' j' g') =
+glues_same {d = d} one (by.pastes {ss = ss} both j g) (by.pastes both' j' g') =
     let e = sides_same one j j' in
     let same : both' ≡ both = cc in
-    glues_same one g (subst (λ x. Glues x ps d) same g')
+    glues_same one g (subst (λ x. Glues x ss d) same g')
 glues_same one (by.pastes both j g) (by.fails j') = let e = sides_same one j j' in absurd cc
 glues_same one (by.fails j) (by.pastes both' j' g') = let e = sides_same one j j' in absurd cc
 glues_same one (by.fails j) (by.fails j') = refl
-glues_same one (by.goes_on {left = left} g) (by.goes_on h) = ap (put_behind left) (glues_same one g h)
+glues_same one (by.goes_on {left = left} g) (by.goes_on h) = ap (preceded_by left) (glues_same one g h)
 
 -- a name that is replaced does not stay
-not_stays : {table : Table} {bound laid : ℕ} {t : Token} {rest : List Token} {r : Replacement} → Replaces table bound laid t rest r → use_of table t rest ≡ stays → ⊥
-not_stays (object_like d made u g) e = absurd cc
-not_stays (unclosed_call u) e = absurd cc
-not_stays (argument_count d ps b u a) e = absurd cc
-not_stays (argument_fault d ps b raw fault u a f) e = absurd cc
-not_stays (function_like d ps b raw done after made u a f g) e = absurd cc
+not_stays : {table : Table} {bound laid : ℕ} {t : Token} {rest : List Token} {r : Replacement} → Replaces table bound laid t rest r → IsInvocation table t rest no_invocation → ⊥
+not_stays (object_like d made u g) e = let f = invocation_same u e in absurd cc
+not_stays (unclosed_call u) e = let f = invocation_same u e in absurd cc
+not_stays (argument_count d ps b u a) e = let f = invocation_same u e in absurd cc
+not_stays (argument_fault d ps b raw fault u a f) e = let g = invocation_same u e in absurd cc
+not_stays (function_like d ps b raw done after made u a f g) e = let h = invocation_same u e in absurd cc
 
 -- what an object-like macro is replaced by
 record IsObject (laid : ℕ) (t : Token) (rest : List Token) (d : Definition) (r : Replacement) : Type 0 where
   made : Option (List Token)
-  glued : Glues [] (parts_of d [] [] other d.body) made
+  glued : Glues [] (substitutes_of d no_arguments []) made
   result : r ≡ replacement_of t (with_name t.text t.hide) rest laid made
 
-object_result : {table : Table} {bound laid : ℕ} {t : Token} {rest : List Token} {r : Replacement} (d : Definition) → use_of table t rest ≡ replaced d
+object_result : {table : Table} {bound laid : ℕ} {t : Token} {rest : List Token} {r : Replacement} (d : Definition) → IsInvocation table t rest (of_object d)
     → Replaces table bound laid t rest r → IsObject laid t rest d r
 object_result d u (object_like d' made u' g) =
-    let same : d' ≡ d = cc in
-    record { made = made; glued = subst (λ x. Glues [] (parts_of x [] [] other x.body) made) same g; result = refl }
-object_result d u (unclosed_call u') = absurd cc
-object_result d u (argument_count d' ps' b' u' a) = absurd cc
-object_result d u (argument_fault d' ps' b' raw fault u' a f) = absurd cc
-object_result d u (function_like d' ps' b' raw done after made u' a f g) = absurd cc
+    let f = invocation_same u' u in let same : d' ≡ d = cc in
+    record { made = made; glued = subst (λ x. Glues [] (substitutes_of x no_arguments []) made) same g; result = refl }
+object_result d u (unclosed_call u') = let e = invocation_same u' u in absurd cc
+object_result d u (argument_count d' ps' b' u' a) = let e = invocation_same u' u in absurd cc
+object_result d u (argument_fault d' ps' b' raw fault u' a f) = let e = invocation_same u' u in absurd cc
+object_result d u (function_like d' ps' b' raw done after made u' a f g) = let e = invocation_same u' u in absurd cc
 
-unclosed_result : {table : Table} {bound laid : ℕ} {t : Token} {rest : List Token} {r : Replacement} → use_of table t rest ≡ unclosed
+unclosed_result : {table : Table} {bound laid : ℕ} {t : Token} {rest : List Token} {r : Replacement} → IsInvocation table t rest unclosed
     → Replaces table bound laid t rest r → r ≡ no_replacement (UnclosedCall t.place)
-unclosed_result u (object_like d' made u' g) = absurd cc
+unclosed_result u (object_like d' made u' g) = let e = invocation_same u' u in absurd cc
 unclosed_result u (unclosed_call u') = refl
-unclosed_result u (argument_count d' ps' b' u' a) = absurd cc
-unclosed_result u (argument_fault d' ps' b' raw fault u' a f) = absurd cc
-unclosed_result u (function_like d' ps' b' raw done after made u' a f g) = absurd cc
+unclosed_result u (argument_count d' ps' b' u' a) = let e = invocation_same u' u in absurd cc
+unclosed_result u (argument_fault d' ps' b' raw fault u' a f) = let e = invocation_same u' u in absurd cc
+unclosed_result u (function_like d' ps' b' raw done after made u' a f g) = let e = invocation_same u' u in absurd cc
 
 -- what comes of a call
 data IsCall (table : Table) (bound laid : ℕ) (t : Token) (d : Definition) (parameters : List (List ℕ)) (b : Bracketed) : Replacement → Type 0 where
-  miscounted : arguments_of (length parameters) d.variadic b.inner ≡ None → IsCall table bound laid t d parameters b (no_replacement (ArgumentCount t.place))
-  faulty : (raw : List (List Token)) (fault : MacroFault) → arguments_of (length parameters) d.variadic b.inner ≡ Some raw
-      → ExpandsEach table bound laid (wanted_from d 0 raw) (one_refused fault) → IsCall table bound laid t d parameters b (no_replacement fault)
-  whole : (raw done : List (List Token)) (after : ℕ) (made : Option (List Token)) → arguments_of (length parameters) d.variadic b.inner ≡ Some raw
-      → ExpandsEach table bound laid (wanted_from d 0 raw) (all_expanded done after) → Glues [] (parts_of d raw done other d.body) made
-      → IsCall table bound laid t d parameters b (replacement_of t (with_name t.text (common t.hide b.closing.hide)) b.behind after made)
+  miscounted : ((raw : Arguments) → ¬ AreArguments (length parameters) d.variadic b.inner raw) → IsCall table bound laid t d parameters b (no_replacement (ArgumentCount t.place))
+  faulty : (raw : Arguments) (fault : MacroFault) → AreArguments (length parameters) d.variadic b.inner raw
+      → ExpandsEach table bound laid (wanted_from d 0 raw.given) (one_refused fault) → IsCall table bound laid t d parameters b (no_replacement fault)
+  whole : (raw : Arguments) (done : List (List Token)) (after : ℕ) (made : Option (List Token)) → AreArguments (length parameters) d.variadic b.inner raw
+      → ExpandsEach table bound laid (wanted_from d 0 raw.given) (all_expanded done after) → Glues [] (substitutes_of d raw done) made
+      → IsCall table bound laid t d parameters b (replacement_of t (with_name t.text (common t.hide b.closing.hide)) b.after after made)
 
 call_along : {table : Table} {bound laid : ℕ} {t : Token} {r : Replacement} (d d' : Definition) (ps ps' : List (List ℕ)) (b b' : Bracketed)
-    → called d' ps' b' ≡ called d ps b → IsCall table bound laid t d' ps' b' r → IsCall table bound laid t d ps b r
+    → of_function d' ps' b' ≡ of_function d ps b → IsCall table bound laid t d' ps' b' r → IsCall table bound laid t d ps b r
 call_along {table} {bound} {laid} {t} {r} d d' ps ps' b b' e h =
     let ds : d' ≡ d = cc in
     let pss : ps' ≡ ps = cc in
@@ -137,56 +140,56 @@ call_along {table} {bound} {laid} {t} {r} d d' ps ps' b b' e h =
     subst (λ x. IsCall table bound laid t x ps b r) ds (subst (λ x. IsCall table bound laid t d' x b r) pss (subst (λ x. IsCall table bound laid t d' ps' x r) bs h))
 
 call_result : {table : Table} {bound laid : ℕ} {t : Token} {rest : List Token} {r : Replacement} (d : Definition) (ps : List (List ℕ)) (b : Bracketed)
-    → use_of table t rest ≡ called d ps b → Replaces table bound laid t rest r → IsCall table bound laid t d ps b r
-call_result d ps b u (object_like d' made u' g) = absurd cc
-call_result d ps b u (unclosed_call u') = absurd cc
-call_result d ps b u (argument_count d' ps' b' u' a) = call_along d d' ps ps' b b' (sym u' ∙ u) (miscounted a)
-call_result d ps b u (argument_fault d' ps' b' raw fault u' a f) = call_along d d' ps ps' b b' (sym u' ∙ u) (faulty raw fault a f)
-call_result d ps b u (function_like d' ps' b' raw done after made u' a f g) = call_along d d' ps ps' b b' (sym u' ∙ u) (whole raw done after made a f g)
+    → IsInvocation table t rest (of_function d ps b) → Replaces table bound laid t rest r → IsCall table bound laid t d ps b r
+call_result d ps b u (object_like d' made u' g) = let e = invocation_same u' u in absurd cc
+call_result d ps b u (unclosed_call u') = let e = invocation_same u' u in absurd cc
+call_result d ps b u (argument_count d' ps' b' u' a) = call_along d d' ps ps' b b' (invocation_same u' u) (miscounted a)
+call_result d ps b u (argument_fault d' ps' b' raw fault u' a f) = call_along d d' ps ps' b b' (invocation_same u' u) (faulty raw fault a f)
+call_result d ps b u (function_like d' ps' b' raw done after made u' a f g) = call_along d d' ps ps' b b' (invocation_same u' u) (whole raw done after made a f g)
 
 count_same : {table : Table} {bound laid : ℕ} {t : Token} {d : Definition} {ps : List (List ℕ)} {b : Bracketed} {s : Replacement}
-    → arguments_of (length ps) d.variadic b.inner ≡ None → IsCall table bound laid t d ps b s → no_replacement (ArgumentCount t.place) ≡ s
+    → ((raw : Arguments) → ¬ AreArguments (length ps) d.variadic b.inner raw) → IsCall table bound laid t d ps b s → no_replacement (ArgumentCount t.place) ≡ s
 count_same a (miscounted a') = refl
-count_same a (faulty raw fault a' f) = absurd cc
-count_same a (whole raw done after made a' f g) = absurd cc
+count_same a (faulty raw fault a' f) = absurd (a raw a')
+count_same a (whole raw done after made a' f g) = absurd (a raw a')
 
 fault_same : {table : Table} {bound laid : ℕ} {t : Token} {d : Definition} {ps : List (List ℕ)} {b : Bracketed} {s : Replacement}
-    (raw : List (List Token)) (fault : MacroFault) → arguments_of (length ps) d.variadic b.inner ≡ Some raw
-    → ((o : ArgumentsOutcome) → ExpandsEach table bound laid (wanted_from d 0 raw) o → one_refused fault ≡ o)
+    (raw : Arguments) (fault : MacroFault) → AreArguments (length ps) d.variadic b.inner raw
+    → ((o : ArgumentsOutcome) → ExpandsEach table bound laid (wanted_from d 0 raw.given) o → one_refused fault ≡ o)
     → IsCall table bound laid t d ps b s → no_replacement fault ≡ s
-fault_same raw fault a only (miscounted a') = absurd cc
+fault_same raw fault a only (miscounted a') = absurd (a' raw a)
 fault_same {table} {bound} {laid} {d = d} raw fault a only (faulty raw' fault' a' f) =
-    let same : raw' ≡ raw = cc in
-    let e = only (one_refused fault') (subst (λ x. ExpandsEach table bound laid (wanted_from d 0 x) (one_refused fault')) same f) in
+    let same : raw' ≡ raw = arguments_same a' a in
+    let e = only (one_refused fault') (subst (λ (x : Arguments). ExpandsEach table bound laid (wanted_from d 0 x.given) (one_refused fault')) same f) in
     cc
 fault_same {table} {bound} {laid} {d = d} raw fault a only (whole raw' done after made a' f g) =
-    let same : raw' ≡ raw = cc in
-    let e = only (all_expanded done after) (subst (λ x. ExpandsEach table bound laid (wanted_from d 0 x) (all_expanded done after)) same f) in
+    let same : raw' ≡ raw = arguments_same a' a in
+    let e = only (all_expanded done after) (subst (λ (x : Arguments). ExpandsEach table bound laid (wanted_from d 0 x.given) (all_expanded done after)) same f) in
     absurd cc
 
 whole_same : {table : Table} {bound laid : ℕ} {t : Token} {d : Definition} {ps : List (List ℕ)} {b : Bracketed} {s : Replacement} → OnePiece
-    → (raw done : List (List Token)) (after : ℕ) (made : Option (List Token)) → arguments_of (length ps) d.variadic b.inner ≡ Some raw
-    → ((o : ArgumentsOutcome) → ExpandsEach table bound laid (wanted_from d 0 raw) o → all_expanded done after ≡ o)
-    → Glues [] (parts_of d raw done other d.body) made → IsCall table bound laid t d ps b s
-    → replacement_of t (with_name t.text (common t.hide b.closing.hide)) b.behind after made ≡ s
-whole_same one raw done after made a only g (miscounted a') = absurd cc
+    → (raw : Arguments) (done : List (List Token)) (after : ℕ) (made : Option (List Token)) → AreArguments (length ps) d.variadic b.inner raw
+    → ((o : ArgumentsOutcome) → ExpandsEach table bound laid (wanted_from d 0 raw.given) o → all_expanded done after ≡ o)
+    → Glues [] (substitutes_of d raw done) made → IsCall table bound laid t d ps b s
+    → replacement_of t (with_name t.text (common t.hide b.closing.hide)) b.after after made ≡ s
+whole_same one raw done after made a only g (miscounted a') = absurd (a' raw a)
 whole_same {table} {bound} {laid} {d = d} one raw done after made a only g (faulty raw' fault a' f) =
-    let same : raw' ≡ raw = cc in
-    let e = only (one_refused fault) (subst (λ x. ExpandsEach table bound laid (wanted_from d 0 x) (one_refused fault)) same f) in
+    let same : raw' ≡ raw = arguments_same a' a in
+    let e = only (one_refused fault) (subst (λ (x : Arguments). ExpandsEach table bound laid (wanted_from d 0 x.given) (one_refused fault)) same f) in
     absurd cc
 whole_same {table} {bound} {laid} {t} {d} {b = b} one raw done after made a only g (whole raw' done' after' made' a' f g') =
-    let same : raw' ≡ raw = cc in
-    let e = only (all_expanded done' after') (subst (λ x. ExpandsEach table bound laid (wanted_from d 0 x) (all_expanded done' after')) same f) in
+    let same : raw' ≡ raw = arguments_same a' a in
+    let e = only (all_expanded done' after') (subst (λ (x : Arguments). ExpandsEach table bound laid (wanted_from d 0 x.given) (all_expanded done' after')) same f) in
     let dones : done' ≡ done = cc in
     let afters : after ≡ after' = cc in
-    let glued = glues_same one g (subst (λ x. Glues [] (parts_of d raw x other d.body) made') dones (subst (λ x. Glues [] (parts_of d x done' other d.body) made') same g')) in
+    let glued = glues_same one g (subst (λ x. Glues [] (substitutes_of d raw x) made') dones (subst (λ (x : Arguments). Glues [] (substitutes_of d x done') made') same g')) in
     cc
 
 mutual
   pub expands_same : {table : Table} {bound laid : ℕ} {ts : List Token} {o p : Outcome} → OnePiece → Expands table bound laid ts o
       → Expands table bound laid ts p → o ≡ p
   expands_same one ends ends = refl
-  expands_same one (token_stays {t = t} u e) (token_stays v f) = ap (behind_token t) (expands_same one e f)
+  expands_same one (token_stays {t = t} u e) (token_stays v f) = ap (preceded_by_token t) (expands_same one e f)
   expands_same one (token_stays u e) (token_goes news after made r le f) = absurd (not_stays r u)
   expands_same one (token_stays u e) (too_many news after made r lt) = absurd (not_stays r u)
   expands_same one (token_stays u e) (stops fault r) = absurd (not_stays r u)
@@ -240,7 +243,7 @@ mutual
   pub each_same : {table : Table} {bound laid : ℕ} {arguments : List (Bool × List Token)} {o p : ArgumentsOutcome} → OnePiece
       → ExpandsEach table bound laid arguments o → ExpandsEach table bound laid arguments p → o ≡ p
   each_same one no_more no_more = refl
-  each_same one (not_wanted e) (not_wanted f) = ap (behind_argument []) (each_same one e f)
+  each_same one (not_wanted e) (not_wanted f) = ap (preceded_by_argument []) (each_same one e f)
   each_same {table} {bound} {p = p} one (wanted {rest = rest} ts after e more) (wanted {outcome = outcome} ts' after' f more') =
       let same = expands_same one e f in
       let lists : ts ≡ ts' = cc in

@@ -10,40 +10,43 @@ use Rattle.cx_macro.specs.declared.expansion.State.{State}
 use Rattle.cx_macro.specs.declared.expansion.Step.TheVariants.{Ends, Goes}
 use Rattle.cx_macro.specs.declared.fault.MacroFault.{MacroFault}
 use Rattle.cx_macro.specs.declared.fault.MacroFault.TheVariants.{ArgumentCount, BadPaste, NoMemory, TooManyTokens, UnclosedCall}
-use Rattle.cx_macro.specs.Arguments.{Bracketed, arguments_of, bracketed}
-use Rattle.cx_macro.specs.Expansion.{Expands, definition_at, refused, replaced, stays, use_of}
+use Rattle.cx_macro.specs.Arguments.{no_arguments, Bracketed}
+use Rattle.cx_macro.specs.Shapes.Counting.{arguments_of, bracketed}
+use Rattle.cx_macro.specs.Expansion.{Expands, definition_at, refused, of_object, no_invocation}
+use Rattle.cx_macro.specs.Shapes.Invocations.{invocation_of}
 use Rattle.cx_macro.specs.Expansion as expansion
 use Rattle.cx_macro.specs.Hiding.{common, with_name}
 use Rattle.cx_macro.specs.Macros.{Definition, Table}
-use Rattle.cx_macro.specs.Parts.{is_raw}
-use Rattle.cx_macro.specs.Replacement.{Glues, is_expanded, other, parts_of, replacing}
-use Rattle.cx_macro.specs.Segments.{IsCut, Spread}
-use Rattle.cx_macro.specs.Steps.{FailsAt, FailsBehind, FailsIn, IsAt, IsBefore, IsIn, IsOn, Leads_to, Proceeds, Resumes, StepIs, Takes, macro_in, wanted_argument, weights, work, work_in}
-use Rattle.cx_macro.specs.Uses.{begins_call}
+use Rattle.cx_macro.specs.Partners.{HasNoPartners}
+use Rattle.cx_macro.specs.Shapes.Substitutes.{is_raw}
+use Rattle.cx_macro.specs.Replacement.{Glues, is_expanded, substitutes_of, replacement_tokens}
+use Rattle.cx_macro.specs.Shapes.Segments.{IsCut, Spread}
+use Rattle.cx_macro.specs.Shapes.Steps.{kept_arguments, FailsAt, FailsBehind, FailsIn, IsExpandingState, IsExpandingAfterToken, IsExpandingCall, IsExpanding, StepsTo, Proceeds, Resumes, StepIs, Takes, macro_in, wanted_argument, weights, work, work_in}
+use Rattle.cx_macro.specs.Arguments.{begins_call}
 use Rattle.cx_macro.proofs.CallLaws.{arguments_weight, bracketed_length, weights-append}
 use Rattle.cx_macro.proofs.StepLaws.{in_bad_paste, in_called, in_next, in_replaced, in_too_many, object_bad_paste, object_too_many, on_begins, on_end, on_last, on_miscounted, on_more, on_object, on_start, on_stays_outermost, on_stays_within, on_unclosed}
-use Rattle.cx_macro.proofs.UseLaws.{use_call, use_unclosed}
+use Rattle.cx_macro.proofs.InvocationLaws.{use_call, use_unclosed}
 
 moves : (table : Table) (bound : ℕ) (known : ℕ → List Token → Type 0) (before : ℕ) (new : State) (laid : ℕ) (outermost done ahead : List Token) (more : List (List Token))
     (calls : List Call)
     → new.laid ≡ laid → new.buffer.done ≡ outermost → new.done ≡ done → new.buffer.ahead ≡ ahead → new.buffer.more ≡ more → new.calls ≡ calls
-    → ((start : ℕ) (whole : List Token) → known start whole → IsOn table bound start whole laid outermost done ahead more calls)
-    → work bound laid ahead more < before → laid ≤ bound → Leads_to table bound known before new
+    → ((start : ℕ) (whole : List Token) → known start whole → IsExpanding table bound start whole laid outermost done ahead more calls)
+    → work bound laid ahead more < before → laid ≤ bound → StepsTo table bound known before new
 moves table bound known before new laid outermost done ahead more calls a b c d e f h less le = record {
   keeps = λ start whole k.
-      subst (λ n. IsOn table bound start whole n new.buffer.done new.done new.buffer.ahead new.buffer.more new.calls) (sym a)
-      (subst (λ x. IsOn table bound start whole laid x new.done new.buffer.ahead new.buffer.more new.calls) (sym b)
-      (subst (λ x. IsOn table bound start whole laid outermost x new.buffer.ahead new.buffer.more new.calls) (sym c)
-      (subst (λ x. IsOn table bound start whole laid outermost done x new.buffer.more new.calls) (sym d)
-      (subst (λ x. IsOn table bound start whole laid outermost done ahead x new.calls) (sym e)
-      (subst (λ x. IsOn table bound start whole laid outermost done ahead more x) (sym f) (h start whole k))))));
+      subst (λ n. IsExpanding table bound start whole n new.buffer.done new.done new.buffer.ahead new.buffer.more new.calls) (sym a)
+      (subst (λ x. IsExpanding table bound start whole laid x new.done new.buffer.ahead new.buffer.more new.calls) (sym b)
+      (subst (λ x. IsExpanding table bound start whole laid outermost x new.buffer.ahead new.buffer.more new.calls) (sym c)
+      (subst (λ x. IsExpanding table bound start whole laid outermost done x new.buffer.more new.calls) (sym d)
+      (subst (λ x. IsExpanding table bound start whole laid outermost done ahead x new.calls) (sym e)
+      (subst (λ x. IsExpanding table bound start whole laid outermost done ahead more x) (sym f) (h start whole k))))));
   less = λ start whole k. subst (λ n. work bound n new.buffer.ahead new.buffer.more < before) (sym a)
       (subst (λ x. work bound laid x new.buffer.more < before) (sym d) (subst (λ x. work bound laid ahead x < before) (sym e) less));
   within = subst (λ n. n ≤ bound) (sym a) le;
 }
 
 wanted_length : (d : Definition) (i : ℕ) (argument : List Token) → length (wanted_argument d i argument) ≤ length argument
-wanted_length d i argument = at (is_expanded d i other d.body) argument
+wanted_length d i argument = at (is_expanded d i) argument
   where
     at : (b : Bool) (argument : List Token) → length (cond b argument []) ≤ length argument
     at true argument = omega arith
@@ -51,14 +54,14 @@ wanted_length d i argument = at (is_expanded d i other d.body) argument
 
 -- a call begins its next argument
 pub begins : (table : Table) (bound laid : ℕ) (b : Spread) (call after : Call) (calls : List Call) (new : State) (kept : List Token) → laid ≤ bound
-    → length call.expanded < call.arguments → kept ≡ cond (is_raw (macro_in call) (length call.expanded) other (macro_in call).body) b.ahead []
+    → length call.expanded < call.arguments → kept ≡ cond (is_raw (macro_in call) (length call.expanded)) b.ahead []
     → after ≡ record call { raw = call.raw ++ kept ∷ [] }
     → new.laid ≡ laid → new.buffer.done ≡ b.done → new.done ≡ [] → new.buffer.ahead ≡ wanted_argument (macro_in call) (length call.expanded) b.ahead
     → new.buffer.more ≡ b.more → new.calls ≡ after ∷ calls → Proceeds table bound laid b call calls new
 begins table bound laid b call after calls new kept le l k same e f g h i j =
     let wanted = wanted_argument (macro_in call) (length call.expanded) b.ahead in
     let shorter = wanted_length (macro_in call) (length call.expanded) b.ahead in
-    moves table bound (λ start whole. IsIn table bound start whole laid b.done b.ahead b.more call calls) (work_in bound laid b.ahead b.more) new laid b.done [] wanted b.more
+    moves table bound (λ start whole. IsExpandingCall table bound start whole laid b.done b.ahead b.more call calls) (work_in bound laid b.ahead b.more) new laid b.done [] wanted b.more
     (after ∷ calls) e f g h i j
     (λ start whole known. on_begins table bound start whole laid b.done b.ahead wanted b.more kept [] call after calls known l k same refl refl)
     (omega (arith, shorter)) le
@@ -73,18 +76,18 @@ less_in m n h = omega (arith, h)
 
 -- a call is replaced
 pub finishes : (table : Table) (bound laid : ℕ) (b : Spread) (call : Call) (calls : List Call) (new : State) (made news : List Token) → call.arguments ≤ length call.expanded
-    → Glues [] (parts_of (macro_in call) call.raw call.expanded other (macro_in call).body) (Some made) → news ≡ replacing call.name call.hide made
+    → Glues [] (substitutes_of (macro_in call) (kept_arguments call) call.expanded) (Some made) → news ≡ replacement_tokens call.name call.hide made
     → new.laid ≡ laid + (length news + 1) → new.laid ≤ bound → new.buffer.done ≡ b.done → new.done ≡ call.done → new.buffer.ahead ≡ news ++ b.ahead
     → new.buffer.more ≡ b.more → new.calls ≡ calls → Proceeds table bound laid b call calls new
 finishes table bound laid b call calls new made news l g e a le c d f h i =
     let le' : laid + (length news + 1) ≤ bound = subst (λ n. n ≤ bound) a le in
-    moves table bound (λ start whole. IsIn table bound start whole laid b.done b.ahead b.more call calls) (work_in bound laid b.ahead b.more) new
+    moves table bound (λ start whole. IsExpandingCall table bound start whole laid b.done b.ahead b.more call calls) (work_in bound laid b.ahead b.more) new
     (laid + (length news + 1)) b.done call.done (news ++ b.ahead) b.more calls a c d f h i
     (λ start whole known. in_replaced table bound start whole laid b.done b.ahead b.more call calls made news known l g e le')
     (less_in (work bound (laid + (length news + 1)) (news ++ b.ahead) b.more) (work bound laid b.ahead b.more) (replaced_less bound laid news b.ahead b.more le')) le'
 
 pub finish_bad_paste : (table : Table) (bound laid : ℕ) (b : Spread) (call : Call) (calls : List Call) (fault : MacroFault) → call.arguments ≤ length call.expanded
-    → (fault ≢ NoMemory → (fault ≡ BadPaste call.name.place) × Glues [] (parts_of (macro_in call) call.raw call.expanded other (macro_in call).body) None)
+    → (fault ≢ NoMemory → (fault ≡ BadPaste call.name.place) × Glues [] (substitutes_of (macro_in call) (kept_arguments call) call.expanded) None)
     → FailsIn table bound laid b call calls fault
 finish_bad_paste table bound laid b call calls fault l f n start whole h =
     let p = f n in
@@ -92,7 +95,7 @@ finish_bad_paste table bound laid b call calls fault l f n start whole h =
 
 pub finish_too_many : (table : Table) (bound laid : ℕ) (b : Spread) (call : Call) (calls : List Call) (fault : MacroFault) (made news : List Token)
     → call.arguments ≤ length call.expanded
-    → Glues [] (parts_of (macro_in call) call.raw call.expanded other (macro_in call).body) (Some made) → news ≡ replacing call.name call.hide made
+    → Glues [] (substitutes_of (macro_in call) (kept_arguments call) call.expanded) (Some made) → news ≡ replacement_tokens call.name call.hide made
     → (fault ≢ NoMemory → (bound < laid + (length news + 1)) × (fault ≡ TooManyTokens call.name.place (laid + (length news + 1))))
     → FailsIn table bound laid b call calls fault
 finish_too_many table bound laid b call calls fault made news l g e f n start whole h =
@@ -106,13 +109,13 @@ Advances b after = (ahead : List Token) (more : List (List Token)) → b.more �
 
 resumed : (table : Table) (bound laid : ℕ) (b next : Spread) (done : List Token) (call after : Call) (calls : List Call) (start : ℕ) (whole : List Token)
     → after ≡ record call { expanded = call.expanded ++ done ∷ [] } → next.done ≡ b.done → Advances b next
-    → IsOn table bound start whole laid b.done done [] b.more (call ∷ calls)
-    → IsIn table bound start whole laid next.done next.ahead next.more after calls × (b.more ≡ next.ahead ∷ next.more)
+    → IsExpanding table bound start whole laid b.done done [] b.more (call ∷ calls)
+    → IsExpandingCall table bound start whole laid next.done next.ahead next.more after calls × (b.more ≡ next.ahead ∷ next.more)
 resumed table bound laid b next done call after calls start whole e d a h =
     let m = on_more table bound start whole laid b.done done b.more call calls h in
     let p = a m.0 m.1 m.2 in
     let same : b.more ≡ next.ahead ∷ next.more = m.2 ∙ (ap (λ x. x ∷ m.1) (sym p.0) ∙ ap (λ x. next.ahead ∷ x) (sym p.1)) in (
-      subst (λ x. IsIn table bound start whole laid x next.ahead next.more after calls) (sym d)
+      subst (λ x. IsExpandingCall table bound start whole laid x next.ahead next.more after calls) (sym d)
           (in_next table bound start whole laid b.done done next.ahead b.more next.more call after calls h e same),
       same,
     )
@@ -148,55 +151,55 @@ none_waits (call ∷ calls) e = absurd (no_suc (length calls) (grind (arith, nat
 pub one_waits : (calls : List Call) → (length calls == 0) ≡ false → 0 < length calls
 one_waits calls e = grind (arith, nat_tests, e)
 
--- a token stays
-pub takes_stays_outermost : (table : Table) (bound : ℕ) (t : Token) (old new : State) → use_of table t old.buffer.ahead ≡ stays → old.laid ≤ bound → old.calls ≡ []
+-- a token no_invocation
+pub takes_stays_outermost : (table : Table) (bound : ℕ) (t : Token) (old new : State) → invocation_of table t old.buffer.ahead ≡ no_invocation → old.laid ≤ bound → old.calls ≡ []
     → new.laid ≡ old.laid → new.buffer.done ≡ old.buffer.done ++ t ∷ [] → new.done ≡ old.done → new.buffer.ahead ≡ old.buffer.ahead → new.buffer.more ≡ old.buffer.more
     → new.calls ≡ old.calls → Takes table bound t old new
 takes_stays_outermost table bound t old new u le none a b c d e f =
-    moves table bound (λ start whole. IsBefore table bound t start whole old) (work bound old.laid (t ∷ old.buffer.ahead) old.buffer.more) new
+    moves table bound (λ start whole. IsExpandingAfterToken table bound t start whole old) (work bound old.laid (t ∷ old.buffer.ahead) old.buffer.more) new
     old.laid (old.buffer.done ++ t ∷ []) old.done old.buffer.ahead old.buffer.more [] a b c d e (f ∙ none)
     (λ start whole h. on_stays_outermost table bound start whole old.laid old.buffer.done old.done old.buffer.ahead old.buffer.more t u
-    (subst (λ x. IsOn table bound start whole old.laid old.buffer.done old.done (t ∷ old.buffer.ahead) old.buffer.more x) none h))
+    (subst (λ x. IsExpanding table bound start whole old.laid old.buffer.done old.done (t ∷ old.buffer.ahead) old.buffer.more x) none h))
     (omega arith) le
 
-pub takes_stays_within : (table : Table) (bound : ℕ) (t : Token) (old new : State) → use_of table t old.buffer.ahead ≡ stays → old.laid ≤ bound → 0 < length old.calls
+pub takes_stays_within : (table : Table) (bound : ℕ) (t : Token) (old new : State) → invocation_of table t old.buffer.ahead ≡ no_invocation → old.laid ≤ bound → 0 < length old.calls
     → new.laid ≡ old.laid → new.buffer.done ≡ old.buffer.done → new.done ≡ old.done ++ t ∷ [] → new.buffer.ahead ≡ old.buffer.ahead → new.buffer.more ≡ old.buffer.more
     → new.calls ≡ old.calls → Takes table bound t old new
 takes_stays_within table bound t old new u le some a b c d e f =
-    moves table bound (λ start whole. IsBefore table bound t start whole old) (work bound old.laid (t ∷ old.buffer.ahead) old.buffer.more) new
+    moves table bound (λ start whole. IsExpandingAfterToken table bound t start whole old) (work bound old.laid (t ∷ old.buffer.ahead) old.buffer.more) new
     old.laid old.buffer.done (old.done ++ t ∷ []) old.buffer.ahead old.buffer.more old.calls a b c d e f
     (λ start whole h. stays_in old.calls some start whole h) (omega arith) le
   where
     stays_in : (calls : List Call) → 0 < length calls → (start : ℕ) (whole : List Token)
-        → IsOn table bound start whole old.laid old.buffer.done old.done (t ∷ old.buffer.ahead) old.buffer.more calls
-        → IsOn table bound start whole old.laid old.buffer.done (old.done ++ t ∷ []) old.buffer.ahead old.buffer.more calls
+        → IsExpanding table bound start whole old.laid old.buffer.done old.done (t ∷ old.buffer.ahead) old.buffer.more calls
+        → IsExpanding table bound start whole old.laid old.buffer.done (old.done ++ t ∷ []) old.buffer.ahead old.buffer.more calls
     stays_in [] l start whole h = absurd (omega (arith, l))
     stays_in (call ∷ calls) l start whole h =
         on_stays_within table bound start whole old.laid old.buffer.done old.done old.buffer.ahead old.buffer.more t call calls u h
 
 -- the name of an object-like macro is replaced
 pub takes_object : (table : Table) (bound : ℕ) (t : Token) (old new : State) (d : Definition) (hide : List (List ℕ)) (made news : List Token)
-    → use_of table t old.buffer.ahead ≡ replaced d → Glues [] (parts_of d [] [] other d.body) (Some made) → hide ≡ with_name t.text t.hide
-    → news ≡ replacing t hide made → new.laid ≡ old.laid + (length news + 1) → new.laid ≤ bound → new.buffer.done ≡ old.buffer.done → new.done ≡ old.done
+    → invocation_of table t old.buffer.ahead ≡ of_object d → Glues [] (substitutes_of d no_arguments []) (Some made) → hide ≡ with_name t.text t.hide
+    → news ≡ replacement_tokens t hide made → new.laid ≡ old.laid + (length news + 1) → new.laid ≤ bound → new.buffer.done ≡ old.buffer.done → new.done ≡ old.done
     → new.buffer.ahead ≡ news ++ old.buffer.ahead → new.buffer.more ≡ old.buffer.more → new.calls ≡ old.calls → Takes table bound t old new
 takes_object table bound t old new d hide made news u g k e a le b c f i j =
     let le' : old.laid + (length news + 1) ≤ bound = subst (λ n. n ≤ bound) a le in
     let less : work bound (old.laid + (length news + 1)) (news ++ old.buffer.ahead) old.buffer.more < work bound old.laid (t ∷ old.buffer.ahead) old.buffer.more =
     omega (arith, length-append news old.buffer.ahead) in
-    moves table bound (λ start whole. IsBefore table bound t start whole old) (work bound old.laid (t ∷ old.buffer.ahead) old.buffer.more) new
+    moves table bound (λ start whole. IsExpandingAfterToken table bound t start whole old) (work bound old.laid (t ∷ old.buffer.ahead) old.buffer.more) new
     (old.laid + (length news + 1)) old.buffer.done old.done (news ++ old.buffer.ahead) old.buffer.more old.calls a b c f i j
     (λ start whole h. on_object table bound start whole old.laid old.buffer.done old.done old.buffer.ahead made news old.buffer.more t hide old.calls d h u g k e le') less le'
 
-pub object_fails : (table : Table) (bound : ℕ) (t : Token) (old : State) (d : Definition) (fault : MacroFault) → use_of table t old.buffer.ahead ≡ replaced d
-    → (fault ≢ NoMemory → (fault ≡ BadPaste t.place) × Glues [] (parts_of d [] [] other d.body) None) → FailsAt table bound t old fault
+pub object_fails : (table : Table) (bound : ℕ) (t : Token) (old : State) (d : Definition) (fault : MacroFault) → invocation_of table t old.buffer.ahead ≡ of_object d
+    → (fault ≢ NoMemory → (fault ≡ BadPaste t.place) × Glues [] (substitutes_of d no_arguments []) None) → FailsAt table bound t old fault
 object_fails table bound t old d fault u f n start whole h =
     let p = f n in
     subst (λ x. Expands table bound start whole (refused x)) (sym p.0)
     (object_bad_paste table bound start whole old.laid old.buffer.done old.done old.buffer.ahead old.buffer.more t old.calls d h u p.1)
 
 pub object_too_long : (table : Table) (bound : ℕ) (t : Token) (old : State) (d : Definition) (fault : MacroFault) (hide : List (List ℕ)) (made news : List Token)
-    → use_of table t old.buffer.ahead ≡ replaced d → Glues [] (parts_of d [] [] other d.body) (Some made) → hide ≡ with_name t.text t.hide
-    → news ≡ replacing t hide made
+    → invocation_of table t old.buffer.ahead ≡ of_object d → Glues [] (substitutes_of d no_arguments []) (Some made) → hide ≡ with_name t.text t.hide
+    → news ≡ replacement_tokens t hide made
     → (fault ≢ NoMemory → (bound < old.laid + (length news + 1)) × (fault ≡ TooManyTokens t.place (old.laid + (length news + 1)))) → FailsAt table bound t old fault
 object_too_long table bound t old d fault hide made news u g k e f n start whole h =
     let p = f n in
@@ -217,7 +220,7 @@ pub record Made (t : Token) (old : State) (ps : List (List ℕ)) (o : Token) (pa
   pub begun : Begun t old (macro_in call) ps o passed.ahead
   pub outermost : passed.done ≡ old.buffer.done
   pub more : passed.more ≡ old.buffer.more
-  pub is_cut : IsCut (length ps) (macro_in call).variadic passed cut hide call.arguments
+  pub is_cut : IsCut (length ps) (macro_in call).variadic passed cut hide call.arguments call.left_out
   pub name : call.name ≡ t
   pub hides : call.hide ≡ with_name t.text (common t.hide hide)
   pub raw : call.raw ≡ []
@@ -225,19 +228,19 @@ pub record Made (t : Token) (old : State) (ps : List (List ℕ)) (o : Token) (pa
   pub done : call.done ≡ old.done
 
 in_made : (table : Table) (bound : ℕ) (t : Token) (old : State) (ps : List (List ℕ)) (o : Token) (passed cut : Spread) (hide : List (List ℕ)) (call : Call)
-    → definition_at table t ≡ Some (macro_in call) → Made t old ps o passed cut hide call → (start : ℕ) (whole : List Token) → IsBefore table bound t start whole old
-    → IsIn table bound start whole old.laid cut.done cut.ahead cut.more call old.calls
+    → definition_at table t ≡ Some (macro_in call) → Made t old ps o passed cut hide call → (start : ℕ) (whole : List Token) → IsExpandingAfterToken table bound t start whole old
+    → IsExpandingCall table bound start whole old.laid cut.done cut.ahead cut.more call old.calls
 in_made table bound t old ps o passed cut hide call def m start whole h =
-    let on : IsOn table bound start whole old.laid old.buffer.done old.done (t ∷ old.buffer.ahead) old.buffer.more old.calls = h in
+    let on : IsExpanding table bound start whole old.laid old.buffer.done old.done (t ∷ old.buffer.ahead) old.buffer.more old.calls = h in
     let b = m.is_cut.brackets in
-    subst (λ x. IsIn table bound start whole old.laid x cut.ahead cut.more call old.calls) (sym (m.is_cut.done ∙ m.outermost))
+    subst (λ x. IsExpandingCall table bound start whole old.laid x cut.ahead cut.more call old.calls) (sym (m.is_cut.done ∙ m.outermost))
     (in_called table bound start whole old.laid old.buffer.ahead old.buffer.done cut.ahead cut.more old.buffer.more m.is_cut.raw call old.calls ps b
-    (subst (λ x. IsOn table bound start whole old.laid old.buffer.done x (call.name ∷ old.buffer.ahead) old.buffer.more old.calls) (sym m.done)
-    (subst (λ x. IsOn table bound start whole old.laid old.buffer.done old.done (x ∷ old.buffer.ahead) old.buffer.more old.calls) (sym m.name) on))
+    (subst (λ x. IsExpanding table bound start whole old.laid old.buffer.done x (call.name ∷ old.buffer.ahead) old.buffer.more old.calls) (sym m.done)
+    (subst (λ x. IsExpanding table bound start whole old.laid old.buffer.done old.done (x ∷ old.buffer.ahead) old.buffer.more old.calls) (sym m.name) on))
     (use_call table call.name o old.buffer.ahead passed.ahead (macro_in call) ps b (subst (λ x. definition_at table x ≡ Some (macro_in call)) (sym m.name) def)
     m.begun.parameters m.begun.begins m.begun.opened m.is_cut.found)
     (m.hides ∙ (ap (λ x. with_name t.text (common t.hide x)) m.is_cut.hides ∙ ap (λ (x : Token). with_name x.text (common x.hide b.closing.hide)) (sym m.name)))
-    m.is_cut.split m.is_cut.counted m.raw m.expanded (m.is_cut.cut ∙ ap (λ x. m.is_cut.raw ++ b.behind ∷ x) m.more))
+    m.is_cut.split m.is_cut.counted m.raw m.expanded (m.is_cut.cut ∙ ap (λ x. m.is_cut.raw ++ b.after ∷ x) m.more))
 
 pub takes_call : (table : Table) (bound : ℕ) (t : Token) (old new : State) (ps : List (List ℕ)) (o : Token) (passed cut : Spread) (hide : List (List ℕ)) (call : Call)
     → definition_at table t ≡ Some (macro_in call) → Made t old ps o passed cut hide call → Proceeds table bound old.laid cut call old.calls new → Takes table bound t old new
@@ -248,9 +251,9 @@ takes_call table bound t old new ps o passed cut hide call def m p = record {
       let b = m.is_cut.brackets in
       let old_length : length old.buffer.ahead ≡ length passed.ahead + 1 = ap length m.begun.opened ∙ one_more (length passed.ahead) in
       let inner = bracketed_length 0 passed.ahead b m.is_cut.found in
-      let weight = arguments_weight (length ps) (macro_in call).variadic b.inner m.is_cut.raw m.is_cut.split in
-      let parts : weights (cut.ahead ∷ cut.more) ≡ weights m.is_cut.raw + weights (b.behind ∷ old.buffer.more) =
-      ap weights (m.is_cut.cut ∙ ap (λ x. m.is_cut.raw ++ b.behind ∷ x) m.more) ∙ weights-append m.is_cut.raw (b.behind ∷ old.buffer.more) in
+      let weight = arguments_weight (length ps) (macro_in call).variadic b.inner (record { given = m.is_cut.raw; left_out = call.left_out }) m.is_cut.split in
+      let parts : weights (cut.ahead ∷ cut.more) ≡ weights m.is_cut.raw + weights (b.after ∷ old.buffer.more) =
+      ap weights (m.is_cut.cut ∙ ap (λ x. m.is_cut.raw ++ b.after ∷ x) m.more) ∙ weights-append m.is_cut.raw (b.after ∷ old.buffer.more) in
       omega (arith, less, old_length, inner, weight, parts);
   within = p.within;
 }
@@ -277,14 +280,14 @@ call_fails table bound t old fault ps o passed cut hide call def m f n start who
 -- a step that takes a token, and one that goes on with a call
 taken_on : (table : Table) (bound : ℕ) (t : Token) (old taken : State) (start : ℕ) (whole : List Token) → taken.laid ≡ old.laid → taken.buffer.done ≡ old.buffer.done
     → taken.done ≡ old.done → old.buffer.ahead ≡ t ∷ taken.buffer.ahead → taken.buffer.more ≡ old.buffer.more → taken.calls ≡ old.calls
-    → IsAt table bound start whole old → IsBefore table bound t start whole taken
+    → IsExpandingState table bound start whole old → IsExpandingAfterToken table bound t start whole taken
 taken_on table bound t old taken start whole a b c d e f h =
-    subst (λ n. IsOn table bound start whole n taken.buffer.done taken.done (t ∷ taken.buffer.ahead) taken.buffer.more taken.calls) (sym a)
-    (subst (λ x. IsOn table bound start whole old.laid x taken.done (t ∷ taken.buffer.ahead) taken.buffer.more taken.calls) (sym b)
-    (subst (λ x. IsOn table bound start whole old.laid old.buffer.done x (t ∷ taken.buffer.ahead) taken.buffer.more taken.calls) (sym c)
-    (subst (λ x. IsOn table bound start whole old.laid old.buffer.done old.done x taken.buffer.more taken.calls) d
-    (subst (λ x. IsOn table bound start whole old.laid old.buffer.done old.done old.buffer.ahead x taken.calls) (sym e)
-    (subst (λ x. IsOn table bound start whole old.laid old.buffer.done old.done old.buffer.ahead old.buffer.more x) (sym f) h)))))
+    subst (λ n. IsExpanding table bound start whole n taken.buffer.done taken.done (t ∷ taken.buffer.ahead) taken.buffer.more taken.calls) (sym a)
+    (subst (λ x. IsExpanding table bound start whole old.laid x taken.done (t ∷ taken.buffer.ahead) taken.buffer.more taken.calls) (sym b)
+    (subst (λ x. IsExpanding table bound start whole old.laid old.buffer.done x (t ∷ taken.buffer.ahead) taken.buffer.more taken.calls) (sym c)
+    (subst (λ x. IsExpanding table bound start whole old.laid old.buffer.done old.done x taken.buffer.more taken.calls) d
+    (subst (λ x. IsExpanding table bound start whole old.laid old.buffer.done old.done old.buffer.ahead x taken.calls) (sym e)
+    (subst (λ x. IsExpanding table bound start whole old.laid old.buffer.done old.done old.buffer.ahead old.buffer.more x) (sym f) h)))))
 
 pub step_takes : (table : Table) (bound : ℕ) (t : Token) (old taken new : State) → taken.laid ≡ old.laid → taken.buffer.done ≡ old.buffer.done → taken.done ≡ old.done
     → old.buffer.ahead ≡ t ∷ taken.buffer.ahead → taken.buffer.more ≡ old.buffer.more → taken.calls ≡ old.calls → Takes table bound t taken new
@@ -299,10 +302,10 @@ step_takes table bound t old taken new a b c d e f p = record {
 }
 
 ended_on : (table : Table) (bound : ℕ) (old : State) (call : Call) (calls : List Call) (start : ℕ) (whole : List Token) → old.buffer.ahead ≡ [] → old.calls ≡ call ∷ calls
-    → IsAt table bound start whole old → IsOn table bound start whole old.laid old.buffer.done old.done [] old.buffer.more (call ∷ calls)
+    → IsExpandingState table bound start whole old → IsExpanding table bound start whole old.laid old.buffer.done old.done [] old.buffer.more (call ∷ calls)
 ended_on table bound old call calls start whole a c h =
-    subst (λ x. IsOn table bound start whole old.laid old.buffer.done old.done x old.buffer.more (call ∷ calls)) a
-    (subst (λ x. IsOn table bound start whole old.laid old.buffer.done old.done old.buffer.ahead old.buffer.more x) c h)
+    subst (λ x. IsExpanding table bound start whole old.laid old.buffer.done old.done x old.buffer.more (call ∷ calls)) a
+    (subst (λ x. IsExpanding table bound start whole old.laid old.buffer.done old.done old.buffer.ahead old.buffer.more x) c h)
 
 pub step_resumes : (table : Table) (bound : ℕ) (old new : State) (b : Spread) (call : Call) (calls : List Call) → b ≡ old.buffer → old.buffer.ahead ≡ [] → old.calls ≡ call ∷ calls
     → Resumes table bound old.laid b old.done call calls new → StepIs table bound old (Goes new)
@@ -316,25 +319,29 @@ step_resumes table bound old new b call calls s a c p' =
     }
 
 pub step_ends : (table : Table) (bound : ℕ) (old : State) (b : Spread) (list : TokenList) → old.laid ≤ bound → b ≡ old.buffer → old.buffer.ahead ≡ [] → old.calls ≡ []
-    → (b.more ≡ [] → tokens list ≡ b.done ++ b.ahead) → StepIs table bound old (Ends list old.laid)
-step_ends table bound old b list le s a c e = (
+    → (b.more ≡ [] → tokens list ≡ b.done ++ b.ahead) → (b.more ≡ [] → b.ahead ≡ [] → HasNoPartners list) → StepIs table bound old (Ends list old.laid)
+step_ends table bound old b list le s a c e alone = (
   le,
   λ start whole h.
-      let on : IsOn table bound start whole old.laid old.buffer.done old.done [] old.buffer.more [] =
-      subst (λ x. IsOn table bound start whole old.laid old.buffer.done old.done x old.buffer.more []) a
-      (subst (λ x. IsOn table bound start whole old.laid old.buffer.done old.done old.buffer.ahead old.buffer.more x) c h) in
+      let on : IsExpanding table bound start whole old.laid old.buffer.done old.done [] old.buffer.more [] =
+      subst (λ x. IsExpanding table bound start whole old.laid old.buffer.done old.done x old.buffer.more []) a
+      (subst (λ x. IsExpanding table bound start whole old.laid old.buffer.done old.done old.buffer.ahead old.buffer.more x) c h) in
       let none : b.more ≡ [] = ap (λ (x : Spread). x.more) s ∙ on_last table bound start whole old.laid old.buffer.done old.done [] old.buffer.more on in
       let same : tokens list ≡ old.buffer.done =
-      e none ∙ (ap (λ (x : Spread). x.done ++ x.ahead) s ∙ (ap (λ ts. old.buffer.done ++ ts) a ∙ append-nil old.buffer.done)) in
-      subst (λ ts. Expands table bound start whole (expansion.expanded ts old.laid)) (sym same)
-      (on_end table bound start whole old.laid old.buffer.done old.done old.buffer.more on),
+      e none ∙ (ap (λ (x : Spread). x.done ++ x.ahead) s ∙ (ap (λ ts. old.buffer.done ++ ts) a ∙ append-nil old.buffer.done)) in (
+        subst (λ ts. Expands table bound start whole (expansion.expanded ts old.laid)) (sym same)
+            (on_end table bound start whole old.laid old.buffer.done old.done old.buffer.more on),
+        alone none (ap (λ (x : Spread). x.ahead) s ∙ a),
+      ),
 )
 
--- the parts of the arguments as the code has them
-pub glued_along : (d : Definition) (raw raw' expanded expanded' : List (List Token)) (made : Option (List Token)) → raw ≡ raw' → expanded ≡ expanded'
-    → Glues [] (parts_of d raw expanded other d.body) made → Glues [] (parts_of d raw' expanded' other d.body) made
-glued_along d raw raw' expanded expanded' made e f g =
-    subst (λ x. Glues [] (parts_of d x expanded' other d.body) made) e (subst (λ x. Glues [] (parts_of d raw x other d.body) made) f g)
+-- the substitutes of the arguments as the code has them
+pub glued_along : (d : Definition) (raw raw' expanded expanded' : List (List Token)) (left_out : Bool) (result : Option (List Token)) → raw ≡ raw' → expanded ≡ expanded'
+    → Glues [] (substitutes_of d (record { given = raw; left_out = left_out }) expanded) result
+    → Glues [] (substitutes_of d (record { given = raw'; left_out = left_out }) expanded') result
+glued_along d raw raw' expanded expanded' left_out result e f g =
+    subst (λ x. Glues [] (substitutes_of d (record { given = x; left_out = left_out }) expanded') result) e
+    (subst (λ x. Glues [] (substitutes_of d (record { given = raw; left_out = left_out }) x) result) f g)
 
 pub too_many_along : (bound laid : ℕ) (name : Token) (view news : List Token) (fault : MacroFault) → view ≡ news
     → (bound < laid + (length view + 1)) × (fault ≡ TooManyTokens name.place (laid + (length view + 1)))
@@ -350,7 +357,7 @@ hides hide both names others names' others' name e f g h =
 
 -- nothing is done yet
 pub on_begun : (table : Table) (bound start : ℕ) (whole done : List Token) (b : Spread) (calls : List Call) → b ≡ record { done = []; ahead = whole; more = [] } → calls ≡ []
-    → IsOn table bound start whole start b.done done b.ahead b.more calls
+    → IsExpanding table bound start whole start b.done done b.ahead b.more calls
 on_begun table bound start whole done b calls e c =
-    subst (λ x. IsOn table bound start whole start b.done done b.ahead b.more x) (sym c)
-    (subst (λ (x : Spread). IsOn table bound start whole start x.done done x.ahead x.more []) (sym e) (on_start table bound start whole done))
+    subst (λ x. IsExpanding table bound start whole start b.done done b.ahead b.more x) (sym c)
+    (subst (λ (x : Spread). IsExpanding table bound start whole start x.done done x.ahead x.more []) (sym e) (on_start table bound start whole done))

@@ -4,8 +4,10 @@ use Rattle.std.proofs.lemmas.List.{nil_from_length, take_at}
 use Rattle.std.proofs.Math.Seq.{drop-append-add, drop-append_seam, drop-nil, take-append-add, take-append_seam}
 use Rattle.cx_tokens.specs.declared.token.Token.{Token}
 use Rattle.cx_macro.specs.declared.segment.Segment.{Segment}
-use Rattle.cx_macro.specs.Arguments.{Bracketed, arguments_of, bracketed, is_close, is_open, named_arguments, with_inner}
-use Rattle.cx_macro.specs.Segments.{Cuts, CutsText, IsCut, Spread, ahead_of, cuts_none, cuts_one, extent, more_of}
+use Rattle.cx_macro.specs.Arguments.{Bracketed, is_close, is_open, no_arguments}
+use Rattle.cx_macro.specs.Shapes.Counting.{arguments_of, bracketed, named_arguments, with_inner}
+use Rattle.cx_macro.specs.Shapes.Segments.{Cuts, CutsText, IsCut, Spread, ahead_of, cuts_none, cuts_one, extent, more_of, spread_of}
+use Rattle.cx_macro.specs.Shapes.Levels.{Standing}
 
 -- another segment on top
 pub replaced : (old new : List Segment) (s item : Segment) (rest : List Segment) (r : Option Segment) → old ≡ s ∷ rest
@@ -33,10 +35,15 @@ counted_up old new s n rest news ts e f h =
       ap (λ x. more_of x (news ++ ts)) f ∙ (ap (λ x. ahead_of rest x ∷ more_of rest x) dropped ∙ ap (λ x. more_of x ts) (sym e)),
     )
 
+-- where no segment is cut off and nothing is left of the first, nothing is ahead
+pub none_ahead : (segments : List Segment) (s : Standing) → (spread_of segments s).more ≡ [] → (spread_of segments s).ahead ≡ [] → s.ahead ≡ []
+none_ahead [] s m a = a
+none_ahead (x ∷ xs) s m a = absurd cc
+
 -- what stands between brackets, the closing one and what stands behind it are all that is ahead
 IsWhole : List Token → Option Bracketed → Type 0
 IsWhole ts None = Unit {0}
-IsWhole ts (Some b) = ts ≡ b.inner ++ b.closing ∷ b.behind
+IsWhole ts (Some b) = ts ≡ b.inner ++ b.closing ∷ b.after
 
 whole_inner : (t : Token) (ts : List Token) (r : Option Bracketed) → IsWhole ts r → IsWhole (t ∷ ts) (with_inner t r)
 unfolding IsWhole
@@ -44,7 +51,7 @@ whole_inner t ts None h = tt
 whole_inner t ts (Some b) h = ap (λ x. t ∷ x) h
 
 whole_first : (closes : Bool) (t : Token) (ts : List Token) (r : Option Bracketed) → IsWhole ts r
-    → IsWhole (t ∷ ts) (cond closes (Some (record { inner = []; closing = t; behind = ts })) (with_inner t r))
+    → IsWhole (t ∷ ts) (cond closes (Some (record { inner = []; closing = t; after = ts })) (with_inner t r))
 unfolding IsWhole
 whole_first true t ts r h = refl
 whole_first false t ts r h = whole_inner t ts r h
@@ -57,7 +64,7 @@ is_whole (suc d) (t ∷ ts) =
     whole_inner t ts (bracketed (cond (is_close t) d (cond (is_open t) (suc (suc d)) (suc d))) ts)
     (is_whole (cond (is_close t) d (cond (is_open t) (suc (suc d)) (suc d))) ts)
 
-pub bracketed_whole : (ts : List Token) (b : Bracketed) → bracketed 0 ts ≡ Some b → ts ≡ b.inner ++ b.closing ∷ b.behind
+pub bracketed_whole : (ts : List Token) (b : Bracketed) → bracketed 0 ts ≡ Some b → ts ≡ b.inner ++ b.closing ∷ b.after
 unfolding IsWhole
 bracketed_whole ts b e = subst (IsWhole ts) e (is_whole 0 ts)
 
@@ -118,7 +125,7 @@ cuts_length _ _ _ behind cuts_none = refl
 cuts_length _ _ _ behind (cuts_one {ss = ss} {rest = rest} {pieces = pieces} s piece ending n e h) = ap (λ k. suc k) (cuts_length ss rest pieces behind h)
 
 -- a macro without parameters is given no argument where nothing stands between the brackets, and else too many
-pub none_given : (inner : List Token) → length inner ≡ 0 → arguments_of 0 false inner ≡ Some []
+pub none_given : (inner : List Token) → length inner ≡ 0 → arguments_of 0 false inner ≡ Some no_arguments
 unfolding arguments_of named_arguments
 none_given [] e = refl
 none_given (t ∷ ts) e = absurd (omega arith)
@@ -130,16 +137,16 @@ some_given (t ∷ ts) h = refl
 
 pub cut_none : (old new : Spread) (r : Option Token) (hide : List (List ℕ)) (b : Bracketed)
     → MatchOption r ((old.ahead ≡ []) × (new ≡ old)) (λ t. (old.ahead ≡ t ∷ new.ahead) × (new.done ≡ old.done) × (new.more ≡ old.more))
-    → bracketed 0 old.ahead ≡ Some b → length b.inner ≡ 0 → hide ≡ b.closing.hide → IsCut 0 false old new hide 0
+    → bracketed 0 old.ahead ≡ Some b → length b.inner ≡ 0 → hide ≡ b.closing.hide → IsCut 0 false old new hide 0 false
 cut_none old new r hide b h found empty hides =
-    step r h (bracketed_whole old.ahead b found ∙ ap (λ x. x ++ b.closing ∷ b.behind) (nil_from_length b.inner empty))
+    step r h (bracketed_whole old.ahead b found ∙ ap (λ x. x ++ b.closing ∷ b.after) (nil_from_length b.inner empty))
   where
     step : (r : Option Token) → MatchOption r ((old.ahead ≡ []) × (new ≡ old)) (λ t. (old.ahead ≡ t ∷ new.ahead) × (new.done ≡ old.done) × (new.more ≡ old.more))
-        → old.ahead ≡ b.closing ∷ b.behind → IsCut 0 false old new hide 0
+        → old.ahead ≡ b.closing ∷ b.after → IsCut 0 false old new hide 0 false
     step None h whole = absurd (let none = h.0 in cc)
     step (Some t) h whole =
         let popped = h.0 in
-        let behind : new.ahead ≡ b.behind = cc in
+        let behind : new.ahead ≡ b.after = cc in
         record {
           brackets = b;
           raw = [];
@@ -153,7 +160,7 @@ cut_none old new r hide b h found empty hides =
 
 -- the arguments of a call are cut off from what stands behind it
 pub cut : (old mid new news : List Segment) (ahead : List Token) (raw : List (List Token)) (b : Bracketed) → CutsText news b.inner raw None
-    → Behind old mid b.inner b.closing b.behind ahead → new ≡ news ++ mid → ahead_of new ahead ∷ more_of new ahead ≡ raw ++ b.behind ∷ more_of old ahead
+    → Behind old mid b.inner b.closing b.after ahead → new ≡ news ++ mid → ahead_of new ahead ∷ more_of new ahead ≡ raw ++ b.after ∷ more_of old ahead
 cut old mid new news ahead raw b cuts h put =
     let spread = cuts_spread news (b.inner ++ b.closing ∷ h.0) raw h.0 mid (cuts b.closing h.0) in
     ap₂ (λ x t. ahead_of x t ∷ more_of x t) put h.1 ∙ (spread ∙ ap₂ (λ x y. raw ++ x ∷ y) h.2 h.3)
@@ -162,4 +169,4 @@ cut old mid new news ahead raw b cuts h put =
 pub inner_again : (ahead : List Token) (b : Bracketed) (n : ℕ) (all inner : List Token) → bracketed 0 ahead ≡ Some b → n ≡ length b.inner → all ≡ ahead
     → inner ≡ take n all → inner ≡ b.inner
 inner_again ahead b n all inner found counted same front =
-    front ∙ (ap (λ x. take n x) (same ∙ bracketed_whole ahead b found) ∙ take_at b.inner (b.closing ∷ b.behind) n (sym counted))
+    front ∙ (ap (λ x. take n x) (same ∙ bracketed_whole ahead b found) ∙ take_at b.inner (b.closing ∷ b.after) n (sym counted))

@@ -1,5 +1,5 @@
--- Calls of function-like macros and their arguments (C11 6.10.3, paragraphs 4 and 10 to 12).
-use Rattle.std.specs.Prelude.{ℕ, zero, suc, ◌+◌, ◌-◌, List, [], ◌∷◌, ◌++◌, Bool, true, false, cond, ◌&&◌, ◌==◌, Option, Some, None, codes}
+-- Invocations of function-like macros, and their arguments (C11 6.10.3, paragraphs 4 and 10 to 12).
+use Rattle.std.specs.Prelude.{◌≡◌, ℕ, ◌<◌, List, [], ◌∷◌, ◌++◌, Bool, true, false, length, codes}
 use Rattle.cx_tokens.specs.declared.token.Token.{Token}
 use Rattle.cx_tokens.specs.Brackets.{is_punctuator}
 
@@ -12,73 +12,71 @@ is_close t = is_punctuator (codes ")") t
 abbrev pub is_comma : Token → Bool
 is_comma t = is_punctuator (codes ",") t
 
--- What stands between an opening bracket and its closing one, the closing one, and what stands behind it.
+-- an opening bracket is the next token
+abbrev pub begins_call : List Token → Bool
+begins_call [] = false
+begins_call (t ∷ ts) = is_open t
+
+-- Tokens whose round brackets are nested.
+pub data IsRoundNested : List Token → Type 0 where
+  nested_ends : IsRoundNested []
+  nested_token : {t : Token} {ts : List Token} → is_open t ≡ false → is_close t ≡ false
+      → IsRoundNested ts → IsRoundNested (t ∷ ts)
+  nested_brackets : {opening : Token} {inner ts : List Token} (closing : Token)
+      → is_open opening ≡ true → IsRoundNested inner → is_close closing ≡ true → IsRoundNested ts
+      → IsRoundNested (opening ∷ (inner ++ closing ∷ ts))
+
+-- What stands between the brackets of an invocation, the closing one, and what stands after it.
 pub record Bracketed : Type 0 where
   pub inner : List Token
   pub closing : Token
-  pub behind : List Token
+  pub after : List Token
 
-abbrev pub with_inner : Token → Option Bracketed → Option Bracketed
-with_inner t None = None
-with_inner t (Some b) = Some (record { inner = t ∷ b.inner; closing = b.closing; behind = b.behind })
+-- The tokens after an opening bracket, up to the one that closes it.
+pub record IsBracketed (ts : List Token) (b : Bracketed) : Type 0 where
+  pub whole : ts ≡ b.inner ++ b.closing ∷ b.after
+  pub nested : IsRoundNested b.inner
+  pub closes : is_close b.closing ≡ true
 
--- what stands behind an opening bracket, with so many more brackets open inside of it
-unfoldable pub bracketed : ℕ → List Token → Option Bracketed
-bracketed depth [] = None
-bracketed zero (t ∷ ts) =
-    cond (is_close t) (Some (record { inner = []; closing = t; behind = ts }))
-    (with_inner t (bracketed (cond (is_open t) 1 0) ts))
-bracketed (suc d) (t ∷ ts) =
-    with_inner t (bracketed (cond (is_close t) d (cond (is_open t) (suc (suc d)) (suc d))) ts)
+-- One argument: its round brackets are nested, and no comma stands outside of them.
+pub data IsArgument : List Token → Type 0 where
+  argument_ends : IsArgument []
+  argument_token : {t : Token} {ts : List Token} → is_open t ≡ false → is_close t ≡ false
+      → is_comma t ≡ false → IsArgument ts → IsArgument (t ∷ ts)
+  argument_brackets : {opening : Token} {inner ts : List Token} (closing : Token)
+      → is_open opening ≡ true → IsRoundNested inner → is_close closing ≡ true → IsArgument ts
+      → IsArgument (opening ∷ (inner ++ closing ∷ ts))
 
--- A front of tokens, and what stands behind the comma behind it, where one is there.
-pub record Cut : Type 0 where
-  pub front : List Token
-  pub behind : Option (List Token)
+-- AreJoined arguments tokens: the arguments with a comma between each two are the tokens.
+pub data AreJoined : List (List Token) → List Token → Type 0 where
+  no_argument : AreJoined [] []
+  last_argument : {a : List Token} → IsArgument a → AreJoined (a ∷ []) a
+  more_arguments : {a b ts : List Token} {more : List (List Token)} (comma : Token)
+      → IsArgument a → is_comma comma ≡ true → AreJoined (b ∷ more) ts
+      → AreJoined (a ∷ b ∷ more) (a ++ comma ∷ ts)
 
-abbrev pub with_front : Token → Cut → Cut
-with_front t cut = record { front = t ∷ cut.front; behind = cut.behind }
+-- The arguments of an invocation, one for each parameter and then the variable one; and whether the
+-- invocation leaves that out.
+pub record Arguments : Type 0 where
+  pub given : List (List Token)
+  pub left_out : Bool
 
--- the tokens up to the first comma outside of brackets, where so many are open
-unfoldable pub cut_at_comma : ℕ → List Token → Cut
-cut_at_comma depth [] = record { front = []; behind = None }
-cut_at_comma depth (t ∷ ts) =
-    cond (is_comma t && (depth == 0)) (record { front = []; behind = Some ts })
-    (with_front t (cut_at_comma (cond (is_open t) (depth + 1) (cond (is_close t) (depth - 1) depth)) ts))
+abbrev pub no_arguments : Arguments
+no_arguments = record { given = []; left_out = false }
 
--- The arguments of the named parameters, and what stands behind the comma behind them, where one is there.
-pub record Named : Type 0 where
-  pub arguments : List (List Token)
-  pub behind : Option (List Token)
-
-abbrev pub with_argument : List Token → Option Named → Option Named
-with_argument argument None = None
-with_argument argument (Some named) = Some (record { arguments = argument ∷ named.arguments; behind = named.behind })
-
--- as many arguments as parameters have names
-unfoldable pub named_arguments : ℕ → Option (List Token) → Option Named
-named_arguments zero text = Some (record { arguments = []; behind = text })
-named_arguments (suc n) None = None
-named_arguments (suc n) (Some ts) = with_argument (cut_at_comma 0 ts).front (named_arguments n (cut_at_comma 0 ts).behind)
-
--- a call of a macro without named parameters has no argument where nothing stands between its brackets
-abbrev pub text_between : ℕ → List Token → Option (List Token)
-text_between zero [] = None
-text_between n inner = Some inner
-
-abbrev pub tokens_or_none : Option (List Token) → List Token
-tokens_or_none None = []
-tokens_or_none (Some ts) = ts
-
-abbrev pub with_variable : Bool → Option Named → Option (List (List Token))
-with_variable variadic None = None
-with_variable true (Some named) = Some (named.arguments ++ tokens_or_none named.behind ∷ [])
-with_variable false (Some named) = without_more named.arguments named.behind
-  where
-    without_more : List (List Token) → Option (List Token) → Option (List (List Token))
-    without_more arguments None = Some arguments
-    without_more arguments (Some ts) = None
-
--- the arguments of a call: one for each parameter, and behind them the variable one; None where their number does not fit
-unfoldable pub arguments_of : ℕ → Bool → List Token → Option (List (List Token))
-arguments_of n variadic inner = with_variable variadic (named_arguments n (text_between n inner))
+-- AreArguments n variadic inner arguments: what stands between the brackets gives these to n
+-- parameters, and to `...` after them. The variable argument is all that stands after the comma
+-- after the others, with the commas in it.
+pub data AreArguments (n : ℕ) : Bool → List Token → Arguments → Type 0 where
+  each_given : {inner : List Token} {given : List (List Token)} → AreJoined given inner
+      → length given ≡ n
+      → AreArguments n false inner (record { given = given; left_out = false })
+  variable_left_out : {inner : List Token} {given : List (List Token)} → AreJoined given inner
+      → length given ≡ n
+      → AreArguments n true inner (record { given = given ++ [] ∷ []; left_out = true })
+  variable_given : {inner front variable : List Token} {given : List (List Token)} (comma : Token)
+      → inner ≡ front ++ comma ∷ variable → AreJoined given front → length given ≡ n → 0 < n
+      → is_comma comma ≡ true → IsRoundNested variable
+      → AreArguments n true inner (record { given = given ++ variable ∷ []; left_out = false })
+  variable_alone : {inner : List Token} → IsRoundNested inner → 0 < length inner → n ≡ 0
+      → AreArguments n true inner (record { given = inner ∷ []; left_out = false })

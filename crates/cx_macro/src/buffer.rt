@@ -2,10 +2,12 @@
 ghost use Rattle.std.specs.Prelude.{◌≡◌, [], ◌∷◌, ◌++◌, List as list, IfOk, MatchOption, OnOk, Some, None, length, true, false};
 ghost use Rattle.cx_tokens.specs.declared.token.Token.{Token as token_type};
 ghost use Rattle.cx_tokens.specs.Nodes.{tokens};
-ghost use Rattle.cx_macro.specs.Arguments.{Bracketed, bracketed as bracketed_of};
-ghost use Rattle.cx_macro.specs.Segments.{CutIs, CutsText, ahead_of, more_of};
+ghost use Rattle.cx_macro.specs.Arguments.{Bracketed};
+ghost use Rattle.cx_macro.specs.Shapes.Counting.{bracketed as bracketed_of};
+ghost use Rattle.cx_macro.specs.Partners.{HasNoPartners};
+ghost use Rattle.cx_macro.specs.Shapes.Segments.{CutIs, CutsText, ahead_of, more_of};
 
-use crate::arguments::{arguments_of, bracketed};
+use crate::arguments::{ArgumentSegments, arguments_of, bracketed};
 use crate::level::Level;
 use crate::segment::{Cut, Segment};
 use crate::stack::Stack;
@@ -26,7 +28,7 @@ pub(crate) struct Buffer {
 }
 
 impl Model for Buffer {
-    ghost use Rattle.cx_macro.specs.Segments.{Spread, spread_of};
+    ghost use Rattle.cx_macro.specs.Shapes.Segments.{Spread, spread_of};
 
     ghost Value = { Spread };
 
@@ -36,8 +38,11 @@ impl Model for Buffer {
 /// Counts a token less in the first of segments, where they are cut off; or answers that it has
 /// none.
 fn count_down(segments: &mut Stack<Segment>) -> bool
-    ensures none { result ≡ false → (segments.new ≡ segments.old) × ((ts : list token_type) → ahead_of segments.old ts ≡ []) }
-    ensures one { result ≡ true → (t : token_type) (ts : list token_type) → (ahead_of segments.old (t ∷ ts) ≡ t ∷ ahead_of segments.new ts) × (more_of segments.old (t ∷ ts) ≡ more_of segments.new ts) }
+    ensures none { result ≡ false → (segments.new ≡ segments.old)
+        × ((ts : list token_type) → ahead_of segments.old ts ≡ []) }
+    ensures one { result ≡ true → (t : token_type) (ts : list token_type)
+        → (ahead_of segments.old (t ∷ ts) ≡ t ∷ ahead_of segments.new ts)
+        × (more_of segments.old (t ∷ ts) ≡ more_of segments.new ts) }
     ensures end { result ≡ true → more_of segments.new [] ≡ more_of segments.old [] }
 {
     let Some(segment) = segments.peek() else {
@@ -56,7 +61,10 @@ fn count_down(segments: &mut Stack<Segment>) -> bool
 
 /// Counts so many tokens more in the first of segments, where they are cut off.
 fn count_up(segments: &mut Stack<Segment>, more: usize) -> Result<(), NoMemory>
-    ensures { OnOk result ((news : list token_type) (ts : list token_type) → length news ≡ more → (ahead_of segments.new (news ++ ts) ≡ news ++ ahead_of segments.old ts) × (more_of segments.new (news ++ ts) ≡ more_of segments.old ts)) }
+    ensures { OnOk result
+        ((news : list token_type) (ts : list token_type) → length news ≡ more
+        → (ahead_of segments.new (news ++ ts) ≡ news ++ ahead_of segments.old ts)
+        × (more_of segments.new (news ++ ts) ≡ more_of segments.old ts)) }
 {
     let Some(segment) = segments.peek() else {
         return Ok(());
@@ -69,7 +77,11 @@ fn count_up(segments: &mut Stack<Segment>, more: usize) -> Result<(), NoMemory>
 
 /// Counts so many tokens and the one behind them off the first of segments, where they are cut off.
 fn count_off(segments: &mut Stack<Segment>, count: usize)
-    ensures { (front : list token_type) (t : token_type) (behind : list token_type) (ts : list token_type) → ahead_of segments.old ts ≡ front ++ t ∷ behind → count ≡ length front → (rest : list token_type) × (ts ≡ front ++ t ∷ rest) × (ahead_of segments.new rest ≡ behind) × (more_of segments.new rest ≡ more_of segments.old ts) }
+    ensures { (front : list token_type) (t : token_type) (behind : list token_type)
+        (ts : list token_type) → ahead_of segments.old ts ≡ front ++ t ∷ behind
+        → count ≡ length front → (rest : list token_type) × (ts ≡ front ++ t ∷ rest)
+        × (ahead_of segments.new rest ≡ behind)
+        × (more_of segments.new rest ≡ more_of segments.old ts) }
 {
     let Some(segment) = segments.peek() else {
         return;
@@ -114,7 +126,8 @@ impl Buffer {
 
     /// The first token ahead.
     pub(crate) fn peek(&self) -> Option<&Token>
-        ensures { MatchOption result (self.now.ahead ≡ []) (λ t. (rest : list token_type) × (self.now.ahead ≡ t.now ∷ rest)) }
+        ensures { MatchOption result (self.now.ahead ≡ [])
+            (λ t. (rest : list token_type) × (self.now.ahead ≡ t.now ∷ rest)) }
     {
         let mut walk = self.walk();
         walk.next()
@@ -122,7 +135,9 @@ impl Buffer {
 
     /// Takes the first token ahead out of the list.
     pub(crate) fn pop(&mut self) -> Option<Token>
-        ensures { MatchOption result ((self.old.ahead ≡ []) × (self.new ≡ self.old)) (λ t. (self.old.ahead ≡ t ∷ self.new.ahead) × (self.new.done ≡ self.old.done) × (self.new.more ≡ self.old.more)) }
+        ensures { MatchOption result ((self.old.ahead ≡ []) × (self.new ≡ self.old))
+            (λ t. (self.old.ahead ≡ t ∷ self.new.ahead) × (self.new.done ≡ self.old.done)
+            × (self.new.more ≡ self.old.more)) }
     {
         if count_down(&mut self.segments) {
             self.level.pop()
@@ -140,14 +155,18 @@ impl Buffer {
 
     /// Puts a token behind those that are done, as done.
     pub(crate) fn keep(&mut self, token: Token) -> Result<(), NoMemory>
-        ensures { OnOk result ((self.new.done ≡ self.old.done ++ token ∷ []) × (self.new.ahead ≡ self.old.ahead) × (self.new.more ≡ self.old.more)) }
+        ensures { OnOk result
+            ((self.new.done ≡ self.old.done ++ token ∷ []) × (self.new.ahead ≡ self.old.ahead)
+            × (self.new.more ≡ self.old.more)) }
     {
         self.level.keep(token)
     }
 
     /// Puts tokens before those that are ahead.
     pub(crate) fn put(&mut self, news: Vec<Token>) -> Result<(), NoMemory>
-        ensures { OnOk result ((self.new.done ≡ self.old.done) × (self.new.ahead ≡ news.items ++ self.old.ahead) × (self.new.more ≡ self.old.more)) }
+        ensures { OnOk result
+            ((self.new.done ≡ self.old.done) × (self.new.ahead ≡ news.items ++ self.old.ahead)
+            × (self.new.more ≡ self.old.more)) }
     {
         count_up(&mut self.segments, news.len())?;
         self.level.put(news)
@@ -157,7 +176,8 @@ impl Buffer {
     pub(crate) fn advance(&mut self)
         requires { self.old.ahead ≡ [] }
         ensures done { self.new.done ≡ self.old.done }
-        ensures next { (ahead : list token_type) (more : list (list token_type)) → self.old.more ≡ ahead ∷ more → (self.new.ahead ≡ ahead) × (self.new.more ≡ more) }
+        ensures next { (ahead : list token_type) (more : list (list token_type))
+            → self.old.more ≡ ahead ∷ more → (self.new.ahead ≡ ahead) × (self.new.more ≡ more) }
     {
         if let Some(segment) = self.segments.pop() {
             if segment.is_ended {
@@ -166,8 +186,8 @@ impl Buffer {
         }
     }
 
-    /// Cuts the arguments of a call whose opening bracket was passed off from what stands behind its
-    /// closing one.
+    /// Cuts the arguments of a call whose opening bracket was passed off from what stands behind
+    /// its closing one.
     pub(crate) fn cut(
         &mut self,
         alloc: Global,
@@ -184,29 +204,43 @@ impl Buffer {
             return Ok(self.cut_none(length, hide));
         }
         let inner = self.walk().within(length);
-        let Some(segments) = arguments_of(alloc, count, variadic, inner)? else {
+        let Some(arguments) = arguments_of(alloc, count, variadic, inner)? else {
             return Ok(Cut::Miscounted);
         };
+        let ArgumentSegments { segments, left_out } = arguments;
         let arguments = segments.len();
         self.cut_off(length, segments)?;
-        Ok(Cut::Called { hide, arguments })
+        Ok(Cut::Called {
+            hide,
+            arguments,
+            left_out,
+        })
     }
 
     /// The same of a macro without parameters, of whose call so many tokens stand between the
     /// brackets.
     fn cut_none(&mut self, inner: usize, hide: List<Text>) -> Cut
-        ensures { (b : Bracketed) → bracketed_of 0 self.old.ahead ≡ Some b → inner ≡ length b.inner → hide ≡ b.closing.hide → CutIs 0 false self.old self.new result }
+        ensures { (b : Bracketed) → bracketed_of 0 self.old.ahead ≡ Some b → inner ≡ length b.inner
+            → hide ≡ b.closing.hide → CutIs 0 false self.old self.new result }
     {
         if inner > 0 {
             return Cut::Miscounted;
         }
         let _closing = self.pop();
-        Cut::Called { hide, arguments: 0 }
+        Cut::Called {
+            hide,
+            arguments: 0,
+            left_out: false,
+        }
     }
 
     /// Cuts segments off, of so many tokens with the ends between them, and the end of the last.
     fn cut_off(&mut self, inner: usize, news: Vec<Segment>) -> Result<(), NoMemory>
-        ensures { OnOk result ((b : Bracketed) (raw : list (list token_type)) → bracketed_of 0 self.old.ahead ≡ Some b → inner ≡ length b.inner → CutsText news.items b.inner raw None → (self.new.done ≡ self.old.done) × (self.new.ahead ∷ self.new.more ≡ raw ++ b.behind ∷ self.old.more)) }
+        ensures { OnOk result
+            ((b : Bracketed) (raw : list (list token_type)) → bracketed_of 0 self.old.ahead ≡ Some b
+            → inner ≡ length b.inner → CutsText news.items b.inner raw None
+            → (self.new.done ≡ self.old.done)
+            × (self.new.ahead ∷ self.new.more ≡ raw ++ b.after ∷ self.old.more)) }
     {
         count_off(&mut self.segments, inner);
         put_before(&mut self.segments, news)
@@ -214,7 +248,8 @@ impl Buffer {
 
     /// The list, done or not.
     pub(crate) fn into_list(self) -> TokenList
-        ensures { self.more ≡ [] → tokens result ≡ self.done ++ self.ahead }
+        ensures tokens { self.more ≡ [] → tokens result ≡ self.done ++ self.ahead }
+        ensures partners { self.more ≡ [] → self.ahead ≡ [] → HasNoPartners result }
     {
         self.level.into_list()
     }

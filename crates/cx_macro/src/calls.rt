@@ -1,18 +1,18 @@
 //! Calls whose arguments are being expanded.
-ghost use Rattle.std.specs.Prelude.{◌≡◌, ◌≢◌, ◌+◌, ◌<◌, ◌≤◌, [], ℕ, cond, length, IfOk, IfErr};
+ghost use Rattle.std.specs.Prelude.{◌≡◌, ◌≢◌, ◌+◌, ◌<◌, ◌≤◌, [], ℕ, if◌then◌else◌, length, IfOk, IfErr};
 ghost use Rattle.cx_macro.specs.Macros.{Table};
-ghost use Rattle.cx_macro.specs.Parts.{is_raw};
-ghost use Rattle.cx_macro.specs.Replacement.{other};
-ghost use Rattle.cx_macro.specs.Steps.{FailsBehind, FailsIn, Proceeds, Resumes, wanted_argument};
+ghost use Rattle.cx_macro.specs.Shapes.Substitutes.{is_raw};
+ghost use Rattle.cx_macro.specs.Shapes.Steps.{FailsBehind, FailsIn, Proceeds, Resumes, wanted_argument};
 ghost use Rattle.cx_macro.specs.Stored.{definition_of};
 
 use crate::buffer::Buffer;
 use crate::expansion::{Call, State};
 use crate::fault::MacroFault;
-use crate::parts::{Arguments, is_expanded, is_raw};
 use crate::replacing::replacement;
+use crate::roles::{is_expanded, is_raw};
 use crate::stack::Stack;
 use crate::stored::Stored;
+use crate::substitutes::Arguments;
 use cx_base::{List, NoMemory};
 use cx_tokens::Token;
 use std::alloc::Global;
@@ -20,7 +20,9 @@ use std::alloc::Global;
 /// How many tokens are laid behind a replacement of a name by others.
 pub(crate) fn count(laid: u32, bound: u32, name: &Token, news: &[Token]) -> Result<u32, MacroFault>
     ensures within { IfOk result (λ n. (n ≡ laid + (length news.now + 1)) × (n ≤ bound)) }
-    ensures fault { IfErr result (λ fault. fault ≢ MacroFault.NoMemory → (bound < laid + (length news.now + 1)) × (fault ≡ MacroFault.TooManyTokens name.now.place (laid + (length news.now + 1)))) }
+    ensures fault { IfErr result
+        (λ fault. fault ≢ MacroFault.NoMemory → (bound < laid + (length news.now + 1))
+        × (fault ≡ MacroFault.TooManyTokens name.now.place (laid + (length news.now + 1)))) }
 {
     let total = (news.len() as u64)
         .checked_add(u64::from(laid) + 1)
@@ -35,14 +37,16 @@ pub(crate) fn count(laid: u32, bound: u32, name: &Token, news: &[Token]) -> Resu
     }
 }
 
-/// What is kept of the argument ahead as it is: nothing, where it stands nowhere beside `#` or `##`.
+/// What is kept of the argument ahead as it is: nothing, where it stands nowhere beside `#` or
+/// `##`.
 fn kept(
     alloc: Global,
     buffer: &Buffer,
     stored: &Stored,
     index: usize,
 ) -> Result<List<Token>, NoMemory>
-    ensures { IfOk result (λ l. l ≡ cond (is_raw (definition_of stored.now) index other stored.now.body) buffer.now.ahead []) }
+    ensures { IfOk result (λ l.
+        l ≡ (if is_raw (definition_of stored.now) index then buffer.now.ahead else [])) }
 {
     if is_raw(stored, index) {
         buffer.walk().copies(alloc)
@@ -54,7 +58,8 @@ fn kept(
 /// Takes the argument ahead out of the list, where it is not to be expanded.
 fn take_unwanted(buffer: &mut Buffer, stored: &Stored, index: usize)
     ensures done { buffer.new.done ≡ buffer.old.done }
-    ensures ahead { buffer.new.ahead ≡ wanted_argument (definition_of stored.now) index buffer.old.ahead }
+    ensures ahead { buffer.new.ahead
+        ≡ wanted_argument (definition_of stored.now) index buffer.old.ahead }
     ensures more { buffer.new.more ≡ buffer.old.more }
 {
     if !is_expanded(stored, index) {
@@ -71,7 +76,9 @@ fn begin<'a>(
     calls: Stack<Call<'a>>,
 ) -> Result<State<'a>, NoMemory>
     requires { length call.expanded < call.arguments }
-    ensures { IfOk result (λ new. (table : Table) (bound : ℕ) → laid ≤ bound → Proceeds table bound laid buffer call.entry calls.entry new) }
+    ensures { IfOk result
+        (λ new. (table : Table) (bound : ℕ) → laid ≤ bound
+        → Proceeds table bound laid buffer call.entry calls.entry new) }
 {
     let mut buffer = buffer;
     let mut call = call;
@@ -99,11 +106,14 @@ fn finish<'a>(
     calls: Stack<Call<'a>>,
 ) -> Result<State<'a>, MacroFault>
     requires { call.arguments ≤ length call.expanded }
-    ensures new { IfOk result (λ new. (table : Table) → Proceeds table bound laid buffer call.entry calls.entry new) }
-    ensures fault { IfErr result (λ fault. (table : Table) → FailsIn table bound laid buffer call.entry calls.entry fault) }
+    ensures new { IfOk result
+        (λ new. (table : Table) → Proceeds table bound laid buffer call.entry calls.entry new) }
+    ensures fault { IfErr result
+        (λ fault. (table : Table) → FailsIn table bound laid buffer call.entry calls.entry fault) }
 {
     let arguments = Arguments {
-        raw: call.raw.as_slice(),
+        given: call.raw.as_slice(),
+        left_out: call.left_out,
         expanded: call.expanded.as_slice(),
     };
     let news = replacement(alloc, call.stored, arguments, &call.name, &call.hide)?;
@@ -128,8 +138,10 @@ pub(crate) fn proceed<'a>(
     calls: Stack<Call<'a>>,
 ) -> Result<State<'a>, MacroFault>
     requires { laid ≤ bound }
-    ensures new { IfOk result (λ new. (table : Table) → Proceeds table bound laid buffer call.entry calls.entry new) }
-    ensures fault { IfErr result (λ fault. (table : Table) → FailsIn table bound laid buffer call.entry calls.entry fault) }
+    ensures new { IfOk result
+        (λ new. (table : Table) → Proceeds table bound laid buffer call.entry calls.entry new) }
+    ensures fault { IfErr result
+        (λ fault. (table : Table) → FailsIn table bound laid buffer call.entry calls.entry fault) }
 {
     if call.expanded.len() < call.arguments {
         Ok(begin(alloc, laid, buffer, call, calls)?)
@@ -150,8 +162,11 @@ pub(crate) fn resume<'a>(
 ) -> Result<State<'a>, MacroFault>
     requires within { laid ≤ bound }
     requires ends { buffer.ahead ≡ [] }
-    ensures new { IfOk result (λ new. (table : Table) → Resumes table bound laid buffer done call.entry calls.entry new) }
-    ensures fault { IfErr result (λ fault. (table : Table) → FailsBehind table bound laid buffer done call.entry calls.entry fault) }
+    ensures new { IfOk result
+        (λ new. (table : Table) → Resumes table bound laid buffer done call.entry calls.entry new) }
+    ensures fault { IfErr result
+        (λ fault. (table : Table)
+        → FailsBehind table bound laid buffer done call.entry calls.entry fault) }
 {
     let mut buffer = buffer;
     let mut call = call;

@@ -14,6 +14,8 @@ pub(crate) struct Call<'a> {
     pub(crate) hide: List<Text>,
     /// How many arguments it has.
     pub(crate) arguments: usize,
+    /// Whether it leaves the variable argument out.
+    pub(crate) left_out: bool,
     /// Those that have been begun, as they are, where they stand beside `#` or `##`; else nothing.
     pub(crate) raw: List<List<Token>>,
     /// Those that are expanded.

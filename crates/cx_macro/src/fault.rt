@@ -1,8 +1,8 @@
 //! Why a text cannot be expanded.
 use cx_base::{NoMemory, Place};
 
-/// Why a text cannot be expanded. Each but the last stands at the name of the macro that could not be
-/// replaced: in a replacement that is the place of the outermost macro's name.
+/// Why a text cannot be expanded. Each but the last stands at the name of the macro that could not
+/// be replaced: in a replacement that is the place of the outermost macro's name.
 #[derive(Clone, Copy, Debug, PartialEq, Eq)]
 pub enum MacroFault {
     /// A call has another number of arguments than the macro takes (C11 6.10.3, paragraph 4).
@@ -11,8 +11,8 @@ pub enum MacroFault {
     UnclosedCall { at: Place },
     /// A `##` makes no preprocessing token (C11 6.10.3.3, paragraph 3).
     BadPaste { at: Place },
-    /// More tokens were laid than the bound. Where the length of the list alone passes it, `at` is the
-    /// place of the first token.
+    /// More tokens were laid than the bound. Where the length of the list alone passes it, `at` is
+    /// the place of the first token.
     TooManyTokens { at: Place, laid: u64 },
     /// Memory ran out.
     NoMemory,

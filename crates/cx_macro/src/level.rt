@@ -2,7 +2,8 @@
 ghost use Rattle.std.specs.Prelude.{◌≡◌, ℕ, List as list, [], ◌∷◌, ◌++◌, IfSome, MatchOption, OnOk, IsTrue};
 ghost use Rattle.cx_tokens.specs.declared.token.Token.{Token as token_type};
 ghost use Rattle.cx_tokens.specs.Nodes.{first_of, is_live, tokens};
-ghost use Rattle.cx_macro.specs.Levels.{nodes_ahead};
+ghost use Rattle.cx_macro.specs.Partners.{HasNoPartners};
+ghost use Rattle.cx_macro.specs.Shapes.Levels.{nodes_ahead};
 
 use crate::walk::Walk;
 use cx_base::NoMemory;
@@ -21,13 +22,15 @@ pub(crate) struct Level {
 impl Model for Level {
     ghost use Rattle.std.specs.Prelude.{IfSome, IsTrue};
     ghost use Rattle.cx_tokens.specs.Nodes.{is_live};
-    ghost use Rattle.cx_macro.specs.Levels.{Standing, standing_of};
+    ghost use Rattle.cx_macro.specs.Partners.{HasNoPartners};
+    ghost use Rattle.cx_macro.specs.Shapes.Levels.{Standing, nodes_done, standing_of};
 
     ghost Value = { Standing };
 
     ghost view = { λ l. standing_of l.last l.list };
 
-    ghost invariant = { λ l. IfSome l.last (λ n. IsTrue (is_live n l.list)) };
+    ghost invariant = { λ l. IfSome l.last (λ n. IsTrue (is_live n l.list))
+        × HasNoPartners (nodes_done l.last l.list) };
 }
 
 impl Level {
@@ -48,7 +51,8 @@ impl Level {
 
     /// Takes the first token ahead out of the list.
     pub(crate) fn pop(&mut self) -> Option<Token>
-        ensures { MatchOption result ((self.old.ahead ≡ []) × (self.new ≡ self.old)) (λ t. (self.old.ahead ≡ t ∷ self.new.ahead) × (self.new.done ≡ self.old.done)) }
+        ensures { MatchOption result ((self.old.ahead ≡ []) × (self.new ≡ self.old))
+            (λ t. (self.old.ahead ≡ t ∷ self.new.ahead) × (self.new.done ≡ self.old.done)) }
     {
         self.list.are_numbered();
         let node = node_ahead(&self.list, self.last)?;
@@ -57,7 +61,8 @@ impl Level {
 
     /// Puts a token behind those that are done, as done.
     pub(crate) fn keep(&mut self, token: Token) -> Result<(), NoMemory>
-        ensures { OnOk result ((self.new.done ≡ self.old.done ++ token ∷ []) × (self.new.ahead ≡ self.old.ahead)) }
+        ensures { OnOk result
+            ((self.new.done ≡ self.old.done ++ token ∷ []) × (self.new.ahead ≡ self.old.ahead)) }
     {
         let node = self.list.insert_after(self.last, token)?;
         self.last = Some(node);
@@ -66,7 +71,8 @@ impl Level {
 
     /// Puts a token behind those that are done, as the first ahead.
     pub(crate) fn push(&mut self, token: Token) -> Result<(), NoMemory>
-        ensures { OnOk result ((self.new.done ≡ self.old.done) × (self.new.ahead ≡ token ∷ self.old.ahead)) }
+        ensures { OnOk result
+            ((self.new.done ≡ self.old.done) × (self.new.ahead ≡ token ∷ self.old.ahead)) }
     {
         let _node = self.list.insert_after(self.last, token)?;
         Ok(())
@@ -74,7 +80,8 @@ impl Level {
 
     /// Puts tokens behind those that are done, as those ahead that come first.
     pub(crate) fn put(&mut self, news: Vec<Token>) -> Result<(), NoMemory>
-        ensures { OnOk result ((self.new.done ≡ self.old.done) × (self.new.ahead ≡ news.items ++ self.old.ahead)) }
+        ensures { OnOk result
+            ((self.new.done ≡ self.old.done) × (self.new.ahead ≡ news.items ++ self.old.ahead)) }
     {
         let mut news = news;
         while let Some(token) = news.pop() {
@@ -85,7 +92,8 @@ impl Level {
 
     /// The list, done or not.
     pub(crate) fn into_list(self) -> TokenList
-        ensures { tokens result ≡ self.done ++ self.ahead }
+        ensures tokens { tokens result ≡ self.done ++ self.ahead }
+        ensures partners { self.ahead ≡ [] → HasNoPartners result }
     {
         self.list
     }

@@ -2,8 +2,12 @@
 #![tactic(auto)]
 
 pub use fault::MacroFault;
-pub use laws::{nothing_is_replaced, one_outcome, some_outcome, the_bound_is_met};
+pub use laws::{
+    a_name_hides_itself, arguments_are_found, nothing_is_replaced, one_closing_bracket,
+    one_outcome, some_outcome, the_bound_is_met,
+};
 pub use macros::{Expanded, Macro, Macros};
+pub use replacement_laws::{standard_rules_alone, string_says_its_argument};
 
 mod arguments;
 mod buffer;
@@ -16,14 +20,16 @@ mod laws;
 mod level;
 mod macros;
 mod marks;
-mod parts;
 mod pasting;
+mod replacement_laws;
 mod replacing;
+mod roles;
 mod segment;
 mod spelling;
 mod stack;
 mod steps;
 mod stored;
+mod substitutes;
 #[cfg(test)]
 mod tests;
 mod walk;

@@ -1,9 +1,11 @@
 //! Macros and their names (C11 6.10.3).
-ghost use Rattle.std.specs.Prelude.{◌≡◌, ◌≢◌, ◌+◌, ◌≤◌, IfErr, IfOk, OnOk, OnErr, bytes_eq, length, not, option_map};
+ghost use Rattle.std.specs.Prelude.{◌≡◌, ◌≢◌, ◌+◌, ◌≤◌, IfErr, IfOk, OnOk, OnErr, length, option_map};
 ghost use Rattle.cx_tokens.specs.Nodes.{tokens};
 ghost use Rattle.cx_macro.specs.Answers.{Answers};
-ghost use Rattle.cx_macro.specs.Expansion.{ExpandsList, Outcome, expanded, refused};
-ghost use Rattle.cx_macro.specs.Macros.{IsDefinition, Table, defined, macro_of, no_macros, undefined};
+ghost use Rattle.cx_macro.specs.Expansion.{ExpandsList, Outcome, expanded, most_laid, refused};
+ghost use Rattle.cx_macro.specs.Macros.{IsDefinition, Table, no_macros};
+ghost use Rattle.cx_macro.specs.Partners.{HasNoPartners};
+ghost use Rattle.cx_table.specs.NameTable.{value_of, with_entry, without_entry};
 ghost use Rattle.cx_macro.specs.Made.{definition_by};
 ghost use Rattle.cx_macro.specs.Stored.{definition_of};
 
@@ -12,8 +14,8 @@ use crate::steps::run;
 use crate::stored::Stored;
 use crate::walk::Walk;
 use cx_base::{List, NoMemory, Text};
+use cx_table::{NameKey, NameTable};
 use cx_tokens::{Token, TokenList};
-use indexmap::IndexMap;
 use std::alloc::Global;
 use std::marker::Model;
 
@@ -62,13 +64,13 @@ pub struct Expanded {
 }
 
 /// How many tokens may be laid, at most.
-const GREATEST: u32 = 262_144;
+const MOST_LAID: u32 = 262_144;
 
 /// Macros by their names, in the order in which they were first seen. Contracts see the table of
 /// them.
 #[derive(Drop)]
 pub struct Macros {
-    macros: IndexMap<Vec<u8>, Stored>,
+    macros: NameTable<Stored>,
     alloc: Global,
 }
 
@@ -80,16 +82,16 @@ impl Model for Macros {
 
     ghost use Rattle.cx_macro.specs.Stored.{definition_of};
 
-    ghost view = { λ m. map (λ e. (e.0.items, definition_of e.1)) m.macros.entries };
+    ghost view = { λ m. map (λ e. (e.0, definition_of e.1)) m.macros };
 }
 
 impl Macros {
-    /// No macros.
-    pub fn new(alloc: Global) -> Macros
+    /// No macros. Their names, which the source picks, are hashed with this key.
+    pub fn new(alloc: Global, key: NameKey) -> Macros
         ensures { result ≡ no_macros }
     {
         Macros {
-            macros: IndexMap::new(alloc),
+            macros: NameTable::new(alloc, key),
             alloc,
         }
     }
@@ -97,34 +99,29 @@ impl Macros {
     /// Defines a name, also one that is defined. A refused call changes nothing.
     pub fn define(&mut self, name: Text, made: Macro) -> Result<(), NoMemory>
         requires { IsDefinition (definition_by made) }
-        ensures ok { OnOk result (self.new ≡ defined name (definition_by made) self.old) }
+        ensures ok { OnOk result (self.new ≡ with_entry name (definition_by made) self.old) }
         ensures err { OnErr result (self.new ≡ self.old) }
     {
-        let key = Vec::from_slice(self.alloc, name.as_slice())?;
         let body = Walk::over(&made.body).copies(self.alloc)?;
         let stored = Stored {
             parameters: made.parameters,
             variadic: made.variadic,
             body,
         };
-        self.macros.insert(key, stored)?;
+        self.macros.insert(name, stored)?;
         Ok(())
     }
 
     /// Takes the definition of a name away, where it has one.
     pub fn undef(&mut self, name: &[u8])
-        ensures { self.new ≡ undefined name.now self.old }
+        ensures { self.new ≡ without_entry name.now self.old }
     {
-        self.macros.retain(
-            |key: &Vec<u8>, stored: &mut Stored| -> bool
-                ensures { (result ≡ not (bytes_eq key.now.items name.entry.now)) × (stored.new ≡ stored.old) }
-            { key.as_slice() != name },
-        );
+        let _ = self.macros.remove(name);
     }
 
     /// The macro of a name.
     pub(crate) fn find(&self, name: &[u8]) -> Option<&Stored>
-        ensures { option_map (λ s. definition_of s.now) result ≡ macro_of self.now name.now }
+        ensures { option_map (λ s. definition_of s.now) result ≡ value_of self.now name.now }
     {
         self.macros.get(name)
     }
@@ -132,12 +129,18 @@ impl Macros {
     /// Replaces the macros of a list (C11 6.10.3), of which each token counts as laid, and for each
     /// replacement one more than its tokens. So many have been laid before.
     pub fn expand(&self, alloc: Global, list: TokenList, laid: u32) -> Result<Expanded, MacroFault>
-        requires { laid ≤ 262144 }
-        ensures ok { IfOk result (λ x. ExpandsList self.now 262144 laid (tokens list) (expanded (tokens x.list) x.laid)) }
-        ensures fault { IfErr result (λ fault. fault ≢ MacroFault.NoMemory → ExpandsList self.now 262144 laid (tokens list) (refused fault)) }
-        ensures only { (outcome : Outcome) → ExpandsList self.now 262144 laid (tokens list) outcome → Answers outcome result }
+        requires { laid ≤ most_laid }
+        ensures ok { IfOk result
+            (λ x. ExpandsList self.now most_laid laid (tokens list)
+            (expanded (tokens x.list) x.laid)) }
+        ensures partners { IfOk result (λ x. HasNoPartners x.list) }
+        ensures fault { IfErr result
+            (λ fault. fault ≢ MacroFault.NoMemory
+            → ExpandsList self.now most_laid laid (tokens list) (refused fault)) }
+        ensures only { (outcome : Outcome)
+            → ExpandsList self.now most_laid laid (tokens list) outcome → Answers outcome result }
     {
-        self.expand_within(alloc, list, laid, GREATEST)
+        self.expand_within(alloc, list, laid, MOST_LAID)
     }
 
     /// The same with another bound.
@@ -149,9 +152,14 @@ impl Macros {
         bound: u32,
     ) -> Result<Expanded, MacroFault>
         requires { laid ≤ bound }
-        ensures ok { IfOk result (λ x. ExpandsList self.now bound laid (tokens list) (expanded (tokens x.list) x.laid)) }
-        ensures fault { IfErr result (λ fault. fault ≢ MacroFault.NoMemory → ExpandsList self.now bound laid (tokens list) (refused fault)) }
-        ensures only { (outcome : Outcome) → ExpandsList self.now bound laid (tokens list) outcome → Answers outcome result }
+        ensures ok { IfOk result
+            (λ x. ExpandsList self.now bound laid (tokens list) (expanded (tokens x.list) x.laid)) }
+        ensures partners { IfOk result (λ x. HasNoPartners x.list) }
+        ensures fault { IfErr result
+            (λ fault. fault ≢ MacroFault.NoMemory
+            → ExpandsList self.now bound laid (tokens list) (refused fault)) }
+        ensures only { (outcome : Outcome) → ExpandsList self.now bound laid (tokens list) outcome
+            → Answers outcome result }
     {
         self.expansion(alloc, list, laid, bound)
     }
@@ -164,8 +172,12 @@ impl Macros {
         bound: u32,
     ) -> Result<Expanded, MacroFault>
         requires { laid ≤ bound }
-        ensures ok { IfOk result (λ x. ExpandsList self.now bound laid (tokens list) (expanded (tokens x.list) x.laid)) }
-        ensures fault { IfErr result (λ fault. fault ≢ MacroFault.NoMemory → ExpandsList self.now bound laid (tokens list) (refused fault)) }
+        ensures ok { IfOk result
+            (λ x. ExpandsList self.now bound laid (tokens list) (expanded (tokens x.list) x.laid)) }
+        ensures partners { IfOk result (λ x. HasNoPartners x.list) }
+        ensures fault { IfErr result
+            (λ fault. fault ≢ MacroFault.NoMemory
+            → ExpandsList self.now bound laid (tokens list) (refused fault)) }
     {
         let first = first_laid(bound, laid, &list)?;
         let (list, laid) = run(self, alloc, bound, first, list)?;
@@ -177,7 +189,9 @@ impl Macros {
 fn first_laid(bound: u32, laid: u32, list: &TokenList) -> Result<u32, MacroFault>
     requires { laid ≤ bound }
     ensures within { IfOk result (λ n. (n ≡ laid + length (tokens list.now)) × (n ≤ bound)) }
-    ensures fault { IfErr result (λ fault. (table : Table) → fault ≢ MacroFault.NoMemory → ExpandsList table bound laid (tokens list.now) (refused fault)) }
+    ensures fault { IfErr result
+        (λ fault. (table : Table) → fault ≢ MacroFault.NoMemory
+        → ExpandsList table bound laid (tokens list.now) (refused fault)) }
 {
     let Some(token) = Walk::over(list).next() else {
         return Ok(laid);

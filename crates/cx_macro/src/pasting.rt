@@ -1,24 +1,24 @@
 //! What `##` makes (C11 6.10.3.3).
 ghost use Rattle.std.specs.Prelude.{◌≡◌, [], ◌∷◌, ◌++◌, IfOk, MatchOption};
-ghost use Rattle.cx_macro.specs.Parts.{parts, part_of, items_of};
 ghost use Rattle.cx_macro.specs.Replacement as meaning;
+ghost use Rattle.cx_macro.specs.Shapes.Substitutes.{items_of, substitute_of_code, substitutes_of_code};
 
 use crate::hiding::common;
-use crate::parts::Piece;
 use crate::stack::Stack;
-use cx_base::{List, NoMemory};
+use crate::substitutes::Substitute;
+use cx_base::{List, NoMemory, Text};
 use cx_lex::one_piece;
-use cx_tokens::Token;
+use cx_tokens::{Token, is_digraph};
 use std::alloc::Global;
 
 /// What a `##` makes of two tokens.
 #[tactic(auto, using(crate::proofs::PastingLaws::pasting))]
 fn join(alloc: Global, left: &Token, right: &Token) -> Result<Option<Token>, NoMemory>
-    ensures { IfOk result (λ made. meaning.Joins left.now right.now made) }
+    ensures { IfOk result (λ joined. meaning.Joins left.now right.now joined) }
 {
-    let mut text = left.text.copy()?;
-    text.push_all(right.text.as_slice())?;
-    match one_piece(alloc, text.as_slice())? {
+    let mut spelling = Text::from_slice(alloc, left.spelling())?;
+    spelling.push_all(right.spelling())?;
+    match one_piece(alloc, spelling.as_slice())? {
         None => Ok(None),
         Some((kind, text)) => {
             let hide = common(alloc, left.hide.as_slice(), right.hide.as_slice())?;
@@ -29,6 +29,7 @@ fn join(alloc: Global, left: &Token, right: &Token) -> Result<Option<Token>, NoM
                 hide,
                 space: left.space,
                 parts: List::new(alloc),
+                digraph: is_digraph(kind, spelling.as_slice()),
             }))
         }
     }
@@ -36,7 +37,8 @@ fn join(alloc: Global, left: &Token, right: &Token) -> Result<Option<Token>, NoM
 
 /// Takes the last of tokens.
 fn pop_last(tokens: &mut Vec<Token>) -> Option<Token>
-    ensures { MatchOption result (tokens.old.items ≡ []) (λ x. tokens.old.items ≡ tokens.new.items ++ x ∷ []) }
+    ensures { MatchOption result (tokens.old.items ≡ []) (λ x. tokens.old.items ≡ tokens.new.items
+        ++ x ∷ []) }
 {
     tokens.pop()
 }
@@ -47,7 +49,7 @@ fn join_sides(
     left: Vec<Token>,
     right: Vec<Token>,
 ) -> Result<Option<Vec<Token>>, NoMemory>
-    ensures { IfOk result (λ made. meaning.JoinsSides left.items right.items (items_of made)) }
+    ensures { IfOk result (λ joined. meaning.JoinsSides left.items right.items (items_of joined)) }
 {
     let mut left = left;
     let mut rest = Stack::from_vec(right);
@@ -68,13 +70,13 @@ fn join_sides(
     }
 }
 
-/// The tokens of a part.
-fn tokens_of(alloc: Global, piece: Piece) -> Result<Vec<Token>, NoMemory>
-    ensures { IfOk result (λ v. v.items ≡ meaning.tokens_of (part_of piece)) }
+/// The tokens of a substitute.
+fn tokens_of(alloc: Global, substitute: Substitute) -> Result<Vec<Token>, NoMemory>
+    ensures { IfOk result (λ v. v.items ≡ meaning.tokens_of (substitute_of_code substitute)) }
 {
-    match piece {
-        Piece::Tokens(tokens) => Ok(tokens),
-        Piece::Paste(token) => {
+    match substitute {
+        Substitute::Operand(tokens) => Ok(tokens),
+        Substitute::PasteOperator(token) => {
             let mut tokens = Vec::new(alloc);
             tokens.push(token)?;
             Ok(tokens)
@@ -82,27 +84,31 @@ fn tokens_of(alloc: Global, piece: Piece) -> Result<Vec<Token>, NoMemory>
     }
 }
 
-/// The tokens of parts, with each `##` carried out from left to right, where each of them makes a
-/// token.
-pub(crate) fn glued(alloc: Global, pieces: Vec<Piece>) -> Result<Option<Vec<Token>>, NoMemory>
-    ensures { IfOk result (λ made. meaning.Glues [] (parts pieces.items) (items_of made)) }
+/// The tokens of substitutes, with each `##` carried out from left to right, where each of them
+/// makes a token.
+pub(crate) fn glued(
+    alloc: Global,
+    substitutes: Vec<Substitute>,
+) -> Result<Option<Vec<Token>>, NoMemory>
+    ensures { IfOk result
+        (λ glued. meaning.Glues [] (substitutes_of_code substitutes.items) (items_of glued)) }
 {
-    let mut pieces = Stack::from_vec(pieces);
+    let mut substitutes = Stack::from_vec(substitutes);
     let mut front = Vec::new(alloc);
     let mut left = Vec::new(alloc);
-    while let Some(piece) = pieces.pop() {
-        match piece {
-            Piece::Tokens(tokens) => {
+    while let Some(substitute) = substitutes.pop() {
+        match substitute {
+            Substitute::Operand(tokens) => {
                 front.append(&mut left)?;
                 left = tokens;
                 continue;
             }
-            Piece::Paste(_) => {
-                let Some(piece) = pieces.pop() else {
+            Substitute::PasteOperator(_) => {
+                let Some(substitute) = substitutes.pop() else {
                     front.append(&mut left)?;
                     return Ok(Some(front));
                 };
-                let right = tokens_of(alloc, piece)?;
+                let right = tokens_of(alloc, substitute)?;
                 match join_sides(alloc, left, right)? {
                     None => return Ok(None),
                     Some(both) => {

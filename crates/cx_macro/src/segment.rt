@@ -17,6 +17,11 @@ pub(crate) enum Cut {
     Unclosed,
     /// The number of arguments does not fit.
     Miscounted,
-    /// What the closing bracket hides, and how many arguments there are.
-    Called { hide: List<Text>, arguments: usize },
+    /// What the closing bracket hides, how many arguments there are, and whether the variable one
+    /// is left out.
+    Called {
+        hide: List<Text>,
+        arguments: usize,
+        left_out: bool,
+    },
 }

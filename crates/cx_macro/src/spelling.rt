@@ -1,4 +1,4 @@
-//! The spelling of tokens, and the string that `#` makes of it (C11 6.10.3.2).
+//! The string that `#` makes of the spelling of tokens (C11 6.10.3.2).
 ghost use Rattle.std.specs.Prelude.{◌≡◌, [], ◌∷◌, ◌++◌, IfOk, OnOk, MatchOption};
 ghost use Rattle.cx_macro.specs.Replacement as meaning;
 
@@ -28,54 +28,54 @@ fn push_escaped(out: &mut Text, text: &[u8]) -> Result<(), NoMemory>
     Ok(())
 }
 
-/// Adds the spelling of a token.
-fn push_spelling(out: &mut Text, token: &Token) -> Result<(), NoMemory>
-    ensures { OnOk result (out.new ≡ out.old ++ meaning.spelling token.now) }
+/// Adds what a token gives to a string.
+fn push_characters(out: &mut Text, token: &Token) -> Result<(), NoMemory>
+    ensures { OnOk result (out.new ≡ out.old ++ meaning.characters_of token.now) }
 {
     if is_quoted(token.kind) {
-        push_escaped(out, token.text.as_slice())
+        push_escaped(out, token.spelling())
     } else {
-        out.push_all(token.text.as_slice())
+        out.push_all(token.spelling())
     }
 }
 
-/// Adds the spelling of a token behind another: one space before it, if it has one.
-fn push_behind(out: &mut Text, token: &Token) -> Result<(), NoMemory>
-    ensures { OnOk result (out.new ≡ out.old ++ meaning.spelling_behind (token.now ∷ [])) }
+/// Adds what a token gives to a string after another: one space before it, if it has one.
+fn push_after(out: &mut Text, token: &Token) -> Result<(), NoMemory>
+    ensures { OnOk result (out.new ≡ out.old ++ meaning.characters_after (token.now ∷ [])) }
 {
     if token.space {
         out.push_all(b" ")?;
-        push_spelling(out, token)
+        push_characters(out, token)
     } else {
-        push_spelling(out, token)
+        push_characters(out, token)
     }
 }
 
-/// Adds the spelling of tokens behind others.
-fn push_all_behind(out: &mut Text, tokens: &[Token]) -> Result<(), NoMemory>
-    ensures { OnOk result (out.new ≡ out.old ++ meaning.spelling_behind tokens.now) }
+/// Adds what tokens give to a string after others.
+fn push_all_after(out: &mut Text, tokens: &[Token]) -> Result<(), NoMemory>
+    ensures { OnOk result (out.new ≡ out.old ++ meaning.characters_after tokens.now) }
 {
     for token in tokens {
-        push_behind(out, token)?;
+        push_after(out, token)?;
     }
     Ok(())
 }
 
-/// Adds the spelling of tokens.
-#[tactic(auto, unfolding(crate::specs::Replacement::spelling_of))]
+/// Adds what tokens give to a string.
+#[tactic(auto, unfolding(crate::specs::Replacement::characters_of_all))]
 fn push_tokens(out: &mut Text, tokens: &[Token]) -> Result<(), NoMemory>
-    ensures { OnOk result (out.new ≡ out.old ++ meaning.spelling_of tokens.now) }
+    ensures { OnOk result (out.new ≡ out.old ++ meaning.characters_of_all tokens.now) }
 {
     match first(tokens) {
         None => Ok(()),
         Some((token, rest)) => {
-            push_spelling(out, token)?;
-            push_all_behind(out, rest)
+            push_characters(out, token)?;
+            push_all_after(out, rest)
         }
     }
 }
 
-/// The first of tokens, and those behind it.
+/// The first of tokens, and those after it.
 pub(crate) fn first(tokens: &[Token]) -> Option<(&Token, &[Token])>
     ensures { MatchOption result (tokens.now ≡ []) (λ x. tokens.now ≡ x.0.now ∷ x.1.now) }
 {
@@ -101,5 +101,6 @@ pub(crate) fn string_of(alloc: Global, hash: &Token, argument: &[Token]) -> Resu
         hide,
         space: hash.space,
         parts: List::new(alloc),
+        digraph: false,
     })
 }

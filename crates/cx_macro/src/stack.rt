@@ -60,14 +60,16 @@ impl<T> Stack<T> {
 
     /// The member on top.
     pub(crate) fn peek(&self) -> Option<&T>
-        ensures { MatchOption result (self.now ≡ []) (λ x. (rest : list T) × (self.now ≡ x.now ∷ rest)) }
+        ensures { MatchOption result (self.now ≡ [])
+            (λ x. (rest : list T) × (self.now ≡ x.now ∷ rest)) }
     {
         self.items.last()
     }
 
     /// Takes the member on top.
     pub(crate) fn pop(&mut self) -> Option<T>
-        ensures { MatchOption result ((self.old ≡ []) × (self.new ≡ [])) (λ x. self.old ≡ x ∷ self.new) }
+        ensures { MatchOption result ((self.old ≡ []) × (self.new ≡ []))
+            (λ x. self.old ≡ x ∷ self.new) }
     {
         self.items.pop()
     }
@@ -76,7 +78,8 @@ impl<T> Stack<T> {
 impl<T: Drop> Stack<T> {
     /// Puts another member in the place of the one on top.
     pub(crate) fn replace(&mut self, item: T) -> Option<T>
-        ensures { MatchOption result ((self.old ≡ []) × (self.new ≡ [])) (λ x. (rest : list T) × (self.old ≡ x ∷ rest) × (self.new ≡ item ∷ rest)) }
+        ensures { MatchOption result ((self.old ≡ []) × (self.new ≡ []))
+            (λ x. (rest : list T) × (self.old ≡ x ∷ rest) × (self.new ≡ item ∷ rest)) }
     {
         let top = self.items.last_mut()?;
         Some(mem::replace(top, item))

@@ -2,10 +2,13 @@
 ghost use Rattle.std.specs.Prelude.{◌≡◌, ◌≢◌, ◌≤◌, ◌∷◌, Some, IfOk, IfErr, IsTrue, ℕ};
 ghost use Rattle.cx_tokens.specs.declared.token.Token.{Token};
 ghost use Rattle.cx_tokens.specs.Nodes.{tokens};
-ghost use Rattle.cx_macro.specs.Expansion.{Expands, definition_at, expanded, refused, replaced, stays, use_of};
+ghost use Rattle.cx_macro.specs.Expansion.{Expands, definition_at, expanded, refused, of_object, no_invocation};
+ghost use Rattle.cx_macro.specs.Shapes.Invocations.{invocation_of};
 ghost use Rattle.cx_macro.specs.Macros.{Table};
-ghost use Rattle.cx_macro.specs.Steps.{FailsAt, FailsOn, MeaningIs, StepIs, Takes};
-ghost use Rattle.cx_macro.specs.Uses.{begins_call, may_go};
+ghost use Rattle.cx_macro.specs.Partners.{HasNoPartners};
+ghost use Rattle.cx_macro.specs.Shapes.Steps.{FailsAt, FailsAtStart, MeaningIs, StepIs, Takes};
+ghost use Rattle.cx_macro.specs.Arguments.{begins_call};
+ghost use Rattle.cx_macro.specs.Shapes.Invocations.{may_be_replaced};
 ghost use Rattle.cx_macro.specs.Stored.{definition_of};
 
 use crate::buffer::Buffer;
@@ -15,11 +18,11 @@ use crate::fault::MacroFault;
 use crate::hiding::{common, is_among, with_name};
 use crate::macros::Macros;
 use crate::marks::{is_name, is_open};
-use crate::parts::Arguments;
 use crate::replacing::replacement;
 use crate::segment::Cut;
 use crate::stack::Stack;
 use crate::stored::{Stored, is_same};
+use crate::substitutes::Arguments;
 use cx_base::{List, Text};
 use cx_tokens::{Token, TokenList};
 use std::alloc::Global;
@@ -28,8 +31,8 @@ use std::alloc::Global;
 const LINE_NAME: &[u8] = b"__LINE__";
 
 /// Whether a token is a name that its hide set does not hold.
-fn may_go(token: &Token) -> bool
-    ensures { result ≡ may_go token.now }
+fn may_be_replaced(token: &Token) -> bool
+    ensures { result ≡ may_be_replaced token.now }
 {
     is_name(token.kind) && !is_among(token.hide.as_slice(), token.text.as_slice())
 }
@@ -39,7 +42,7 @@ fn may_go(token: &Token) -> bool
 fn meaning_of<'a>(macros: &'a Macros, token: &Token) -> Meaning<'a>
     ensures { MeaningIs macros.now token.now result }
 {
-    if !may_go(token) {
+    if !may_be_replaced(token) {
         return Meaning::Itself;
     }
     if is_same(token.text.as_slice(), LINE_NAME) {
@@ -53,7 +56,10 @@ fn meaning_of<'a>(macros: &'a Macros, token: &Token) -> Meaning<'a>
 
 /// Lets a token stay.
 fn stay<'a>(state: State<'a>, token: Token) -> Result<State<'a>, MacroFault>
-    ensures new { IfOk result (λ new. (table : Table) (bound : ℕ) → use_of table token state.entry.buffer.ahead ≡ stays → state.entry.laid ≤ bound → Takes table bound token state.entry new) }
+    ensures new { IfOk result
+        (λ new. (table : Table) (bound : ℕ)
+        → invocation_of table token state.entry.buffer.ahead ≡ no_invocation
+        → state.entry.laid ≤ bound → Takes table bound token state.entry new) }
     ensures fault { IfErr result (λ fault. fault ≡ MacroFault.NoMemory) }
 {
     let mut state = state;
@@ -73,11 +79,18 @@ fn replace<'a>(
     stored: &Stored,
     name: Token,
 ) -> Result<State<'a>, MacroFault>
-    ensures new { IfOk result (λ new. (table : Table) → use_of table name state.entry.buffer.ahead ≡ replaced (definition_of stored.now) → Takes table bound name state.entry new) }
-    ensures fault { IfErr result (λ fault. (table : Table) → use_of table name state.entry.buffer.ahead ≡ replaced (definition_of stored.now) → FailsAt table bound name state.entry fault) }
+    ensures new { IfOk result
+        (λ new. (table : Table)
+        → invocation_of table name state.entry.buffer.ahead ≡ of_object (definition_of stored.now)
+        → Takes table bound name state.entry new) }
+    ensures fault { IfErr result
+        (λ fault. (table : Table)
+        → invocation_of table name state.entry.buffer.ahead ≡ of_object (definition_of stored.now)
+        → FailsAt table bound name state.entry fault) }
 {
     let none = Arguments {
-        raw: &[],
+        given: &[],
+        left_out: false,
         expanded: &[],
     };
     let hide = with_name(alloc, &name.text, &name.hide)?;
@@ -120,8 +133,12 @@ fn call<'a>(
     requires within { state.laid ≤ bound }
     requires parameters { stored.now.parameters ≡ Some parameters.now }
     requires open { IsTrue (begins_call state.buffer.ahead) }
-    ensures new { IfOk result (λ new. (table : Table) → definition_at table name ≡ Some (definition_of stored.now) → Takes table bound name state.entry new) }
-    ensures fault { IfErr result (λ fault. (table : Table) → definition_at table name ≡ Some (definition_of stored.now) → FailsAt table bound name state.entry fault) }
+    ensures new { IfOk result
+        (λ new. (table : Table) → definition_at table name ≡ Some (definition_of stored.now)
+        → Takes table bound name state.entry new) }
+    ensures fault { IfErr result
+        (λ fault. (table : Table) → definition_at table name ≡ Some (definition_of stored.now)
+        → FailsAt table bound name state.entry fault) }
 {
     let State {
         laid,
@@ -137,6 +154,7 @@ fn call<'a>(
         Cut::Called {
             hide: closing,
             arguments,
+            left_out,
         } => {
             let both = common(alloc, name.hide.as_slice(), closing.as_slice())?;
             let hide = with_name(alloc, &name.text, &both)?;
@@ -145,6 +163,7 @@ fn call<'a>(
                 stored,
                 hide,
                 arguments,
+                left_out,
                 raw: List::new(alloc),
                 expanded: List::new(alloc),
                 done,
@@ -163,8 +182,12 @@ fn take_name<'a>(
     name: Token,
 ) -> Result<State<'a>, MacroFault>
     requires { state.laid ≤ bound }
-    ensures new { IfOk result (λ new. (table : Table) → definition_at table name ≡ Some (definition_of stored.now) → Takes table bound name state.entry new) }
-    ensures fault { IfErr result (λ fault. (table : Table) → definition_at table name ≡ Some (definition_of stored.now) → FailsAt table bound name state.entry fault) }
+    ensures new { IfOk result
+        (λ new. (table : Table) → definition_at table name ≡ Some (definition_of stored.now)
+        → Takes table bound name state.entry new) }
+    ensures fault { IfErr result
+        (λ fault. (table : Table) → definition_at table name ≡ Some (definition_of stored.now)
+        → FailsAt table bound name state.entry fault) }
 {
     let Some(parameters) = &stored.parameters else {
         return replace(alloc, bound, state, stored, name);
@@ -207,7 +230,7 @@ pub(crate) fn step<'a>(
 ) -> Result<Step<'a>, MacroFault>
     requires { state.laid ≤ bound }
     ensures new { IfOk result (λ step. StepIs macros.now bound state.entry step) }
-    ensures fault { IfErr result (λ fault. FailsOn macros.now bound state.entry fault) }
+    ensures fault { IfErr result (λ fault. FailsAtStart macros.now bound state.entry fault) }
 {
     let mut state = state;
     if let Some(token) = state.buffer.pop() {
@@ -238,9 +261,13 @@ pub(crate) fn run(
     list: TokenList,
 ) -> Result<(TokenList, u32), MacroFault>
     requires { laid ≤ bound }
-    ensures outcome { IfOk result (λ x. Expands macros.now bound laid (tokens list) (expanded (tokens x.0) x.1)) }
+    ensures outcome { IfOk result
+        (λ x. Expands macros.now bound laid (tokens list) (expanded (tokens x.0) x.1)) }
+    ensures partners { IfOk result (λ x. HasNoPartners x.0) }
     ensures within { IfOk result (λ x. x.1 ≤ bound) }
-    ensures fault { IfErr result (λ fault. fault ≢ MacroFault.NoMemory → Expands macros.now bound laid (tokens list) (refused fault)) }
+    ensures fault { IfErr result
+        (λ fault. fault ≢ MacroFault.NoMemory
+        → Expands macros.now bound laid (tokens list) (refused fault)) }
 {
     let mut state = State {
         laid,

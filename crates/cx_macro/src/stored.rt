@@ -2,10 +2,10 @@
 ghost use Rattle.std.specs.Prelude.{◌≡◌, IfOk, bytes_eq, false, position};
 ghost use Rattle.cx_macro.specs.Expansion.{line_of};
 ghost use Rattle.cx_macro.specs.Macros as macros;
-ghost use Rattle.cx_macro.specs.Replacement.{is_index, is_operator};
+ghost use Rattle.cx_macro.specs.Replacement.{is_index};
 ghost use Rattle.cx_macro.specs.Stored.{definition_of};
 
-use crate::marks::{is_hash, is_name};
+use crate::marks::is_name;
 use cx_base::{List, NoMemory, Text};
 use cx_tokens::{Kind, Token};
 use std::alloc::Global;
@@ -74,6 +74,7 @@ impl Stored {
             hide: List::new(alloc),
             space: false,
             parts: List::new(alloc),
+            digraph: false,
         })?;
         Ok(Stored {
             parameters: None,
@@ -103,7 +104,8 @@ impl Stored {
     /// Whether a token may be the parameter with an index, by its name: this is told without a
     /// search among the others.
     fn may_be(&self, token: &Token, index: usize) -> bool
-        ensures { result ≡ false → is_index index (macros.parameter_at (definition_of self.now) token.now) ≡ false }
+        ensures { result ≡ false
+            → is_index index (macros.parameter_at (definition_of self.now) token.now) ≡ false }
     {
         let Some(parameters) = &self.parameters else {
             return false;
@@ -119,12 +121,5 @@ impl Stored {
         ensures { result ≡ is_index index (macros.parameter_at (definition_of self.now) token.now) }
     {
         self.may_be(token, index) && self.parameter_at(token) == Some(index)
-    }
-
-    /// A `#` before a parameter.
-    pub(crate) fn is_operator(&self, token: &Token) -> bool
-        ensures { result ≡ is_operator (definition_of self.now) token.now }
-    {
-        self.parameters.is_some() && is_hash(token)
     }
 }

@@ -5,6 +5,7 @@ use crate::macros::{Expanded, Macro, Macros};
 use crate::walk::Walk;
 use cx_base::{List, NoMemory, Text};
 use cx_lex::{Piece, lex};
+use cx_table::NameKey;
 use cx_tokens::{Kind, Token, TokenList};
 use std::alloc::{AllocError, AllocGlobal, Global};
 use std::process::Abort;
@@ -12,7 +13,7 @@ use std::str;
 
 /// Definitions, one a line, a text, and what it expands to: the tokens with a space between each
 /// two, or the fault.
-const EXPANSIONS: [(&str, &str, &str); 51] = [
+const EXPANSIONS: [(&str, &str, &str); 24] = [
     ("f(x) f(x) + 1", "f(f(2))", "f ( f ( 2 ) + 1 ) + 1"),
     ("s(x) #x", "s(a  b)", "\"a b\""),
     ("T 100", "int table[T];", "int table [ 100 ] ;"),
@@ -93,6 +94,10 @@ const EXPANSIONS: [(&str, &str, &str); 51] = [
         "report(x>y, \"x is %d but y is %d\", x, y);",
         "( ( x > y ) ? puts ( \"x>y\" ) : printf ( \"x is %d but y is %d\" , x , y ) ) ;",
     ),
+];
+
+/// The same: which arguments an invocation has, and GNU's comma.
+const INVOCATIONS: [(&str, &str, &str); 23] = [
     ("f(x) x", "f f (1)", "f 1"),
     ("f(x) x", " f(1", "unclosed@1:2"),
     ("f(a,b) b a\ng(x) x", "f(g(1,2), g(3,4))", "count@1:3"),
@@ -112,8 +117,59 @@ const EXPANSIONS: [(&str, &str, &str); 51] = [
         "1 1 1 2 , 3",
     ),
     ("f(__VA_ARGS__) __VA_ARGS__", "f(1)", "1"),
-    ("p(a, ...) q(a, ## __VA_ARGS__)", "p(1)", "q ( 1 , )"),
-    ("p(a, ...) q(a, ## __VA_ARGS__)", "p(1, 2)", "paste@1:1"),
+    ("p(a, ...) q(a, ## __VA_ARGS__)", "p(1)", "q ( 1 )"),
+    (
+        "p(a, ...) q(a, ## __VA_ARGS__)",
+        "p(1, 2) p(1, 2, 3)",
+        "q ( 1 , 2 ) q ( 1 , 2 , 3 )",
+    ),
+    ("p(a, ...) q(a, ## __VA_ARGS__)", "p(1,)", "q ( 1 , )"),
+    (
+        "p(...) q(0, ## __VA_ARGS__)",
+        "p() p(1)",
+        "q ( 0 ) q ( 0 , 1 )",
+    ),
+    (
+        "p(a, ...) q(a, ## __VA_ARGS__)\nm 7",
+        "p(m, m)",
+        "q ( 7 , 7 )",
+    ),
+    ("p(a, ...) a ## , ## __VA_ARGS__", "p(,2)", "paste@1:1"),
+    ("p(a, ...) a ## , ## __VA_ARGS__", "p()", ","),
+    ("p(a, ...) a, ## __VA_ARGS__ ## x", "p(1)", "paste@1:1"),
+    ("p(a, ...) a, ## __VA_ARGS__ ## x", "p(1, 2)", "paste@1:1"),
+    ("p(a, b) a, ## b", "p(1,)", "1 ,"),
+    ("p(a, b) a, ## b", "p(1,2)", "paste@1:1"),
+    ("p(a, ...) a; ## __VA_ARGS__", "p(1)", "1 ;"),
+];
+
+/// The same: `#` and `##`, and what is hidden.
+const OPERATORS: [(&str, &str, &str); 23] = [
+    (
+        "s(x) #x",
+        "s(<:) s(%:%: %>) s([)",
+        "\"<:\" \"%:%: %>\" \"[\"",
+    ),
+    ("s(x) %:x", "s(1)", "\"1\""),
+    ("c(x,y) x %:%: y", "c(1,2)", "12"),
+    ("c(x,y) x ## y", "c(%:,#)", "paste@1:1"),
+    (
+        "c(x,y) x ## y\ns(x) #x\nt(x) s(x)",
+        "t(c(%:,%:)) t(c(%,:)) t(c(#,#)) t(c(<,:))",
+        "\"%:%:\" \"%:\" \"##\" \"<:\"",
+    ),
+    ("c(x,y) x ## y", "c(%:,%:) c(%,:) c(<,:)", "## # ["),
+    ("f(x) x", "f<:1,2:>", "f [ 1 , 2 ]"),
+    (
+        "hash_hash # ## #\nmkstr(a) # a\nin_between(a) mkstr(a)\njoin(c, d) in_between(c hash_hash d)",
+        "char p[] = join(x, y);",
+        "char p [ ] = \"x ## y\" ;",
+    ),
+    (
+        "str(s) # s\nxstr(s) str(s)",
+        "xstr(strncmp(\"abc\\0d\", \"abc\", '\\4') == 0) str(: @\\n)",
+        "\"strncmp(\\\"abc\\\\0d\\\", \\\"abc\\\", '\\\\4') == 0\" \": @\\n\"",
+    ),
     ("o a ## b\nf ## b\ng b ##", "o f g", "ab b b"),
     ("o a ## ## b", "o", "paste@1:1"),
     ("d(x) x ## ## b", "d()", "## b"),
@@ -197,7 +253,7 @@ fn is(piece: &Piece, text: &[u8]) -> bool {
     piece.token.text.as_slice() == text
 }
 
-/// Whether an opening bracket stands directly behind a macro's name.
+/// Whether an opening bracket stands directly after a macro's name.
 fn begins_parameters(rest: &[Piece]) -> bool {
     match rest.first() {
         Some(open) => is(open, b"(") && !open.token.space,
@@ -247,7 +303,7 @@ fn define(
     let Some((name, made)) = definition(alloc, line)? else {
         return Ok(());
     };
-    let can_be_defined = made.can_be_defined(alloc)?;
+    let can_be_defined = made.can_be_defined(alloc, NameKey::of(b"tests"))?;
     assert!(rt; can_be_defined, "cannot be defined: {line}");
     macros.define(name, made)
 }
@@ -287,7 +343,7 @@ fn expansion(
     bound: u32,
 ) -> Result<Result<Expanded, MacroFault>, NoMemory> {
     let alloc = rt.alloc();
-    let mut macros = Macros::new(alloc);
+    let mut macros = Macros::new(alloc, NameKey::of(b"macros"));
     for line in lines.lines() {
         define(rt, &mut macros, line)?;
     }
@@ -326,6 +382,24 @@ fn lists_are_expanded(rt: HostRuntime) {
 }
 
 #[test]
+fn invocations_have_their_arguments(rt: HostRuntime) {
+    for (lines, text, expected) in INVOCATIONS {
+        let answer = expansion(&rt, lines, text, 0, 262_144).expect(&rt, "memory");
+        let shown = shown(rt.alloc(), answer).expect(&rt, "memory");
+        assert_eq!(rt; shown.as_str(), expected, "at {text}");
+    }
+}
+
+#[test]
+fn operators_make_tokens(rt: HostRuntime) {
+    for (lines, text, expected) in OPERATORS {
+        let answer = expansion(&rt, lines, text, 0, 262_144).expect(&rt, "memory");
+        let shown = shown(rt.alloc(), answer).expect(&rt, "memory");
+        assert_eq!(rt; shown.as_str(), expected, "at {text}");
+    }
+}
+
+#[test]
 fn tokens_are_counted(rt: HostRuntime) {
     for (lines, text, laid, bound, expected) in COUNTS {
         let answer = expansion(&rt, lines, text, laid, bound).expect(&rt, "memory");
@@ -334,7 +408,7 @@ fn tokens_are_counted(rt: HostRuntime) {
     }
 }
 
-/// A text with so many of one before it, and of another behind it.
+/// A text with so many of one before it, and of another after it.
 fn repeated(
     alloc: Global,
     front: &str,
@@ -378,7 +452,9 @@ fn what_can_be_defined(rt: HostRuntime) {
         let Some((_, made)) = definition(alloc, line).expect(&rt, "memory") else {
             panic!(rt; "no pieces");
         };
-        let answer = made.can_be_defined(alloc).expect(&rt, "memory");
+        let answer = made
+            .can_be_defined(alloc, NameKey::of(b"tests"))
+            .expect(&rt, "memory");
         assert_eq!(rt; answer, expected, "at {line}");
     }
     let made = Macro {
@@ -386,14 +462,16 @@ fn what_can_be_defined(rt: HostRuntime) {
         variadic: true,
         body: TokenList::new(alloc),
     };
-    let answer = made.can_be_defined(alloc).expect(&rt, "memory");
+    let answer = made
+        .can_be_defined(alloc, NameKey::of(b"tests"))
+        .expect(&rt, "memory");
     assert!(rt; !answer);
 }
 
 #[test]
 fn macros_are_defined(rt: HostRuntime) {
     let alloc = rt.alloc();
-    let mut macros = Macros::new(alloc);
+    let mut macros = Macros::new(alloc, NameKey::of(b"macros"));
     let body = list_of(alloc, pieces(alloc, "1").expect(&rt, "memory").as_slice());
     let made = Macro {
         parameters: None,
@@ -403,7 +481,9 @@ fn macros_are_defined(rt: HostRuntime) {
     let copy = made.copy().expect(&rt, "memory");
     assert!(rt; copy.parameters.is_none() && !copy.variadic);
     let name = Text::from_slice(alloc, b"m").expect(&rt, "memory");
-    let can_be_defined = made.can_be_defined(alloc).expect(&rt, "memory");
+    let can_be_defined = made
+        .can_be_defined(alloc, NameKey::of(b"tests"))
+        .expect(&rt, "memory");
     assert!(rt; can_be_defined);
     macros.define(name, made).expect(&rt, "memory");
     let list = list_of(alloc, pieces(alloc, "m").expect(&rt, "memory").as_slice());

@@ -1,7 +1,7 @@
 //! Tokens read ahead.
-ghost use Rattle.std.specs.Prelude.{◌≡◌, ◌+◌, [], ◌∷◌, None, IfOk, IfSome, IsTrue, MatchOption, length, take};
+ghost use Rattle.std.specs.Prelude.{◌≡◌, ◌+◌, [], ◌∷◌, None, IfOk, IfSome, IsTrue, MatchOption, length, take, ◌==◌};
 ghost use Rattle.cx_tokens.specs.Nodes.{is_live, tokens};
-ghost use Rattle.cx_macro.specs.Walks.{walked};
+ghost use Rattle.cx_macro.specs.Shapes.Walks.{walked};
 
 use cx_base::{List, NoMemory};
 use cx_tokens::{Node, Token, TokenList};
@@ -28,7 +28,7 @@ impl<'a> Model for Walk<'a> {
     ghost use Rattle.std.specs.Prelude.{List, IfSome, IsTrue};
     ghost use Rattle.cx_tokens.specs.declared.token.Token.{Token};
     ghost use Rattle.cx_tokens.specs.Nodes.{is_live};
-    ghost use Rattle.cx_macro.specs.Walks.{walked};
+    ghost use Rattle.cx_macro.specs.Shapes.Walks.{walked};
 
     ghost Value = { List Token };
 
@@ -73,9 +73,22 @@ impl<'a> Walk<'a> {
         }
     }
 
+    /// Whether no token is left.
+    pub(crate) fn is_empty(&self) -> bool
+        ensures { result ≡ (length self.now == 0) }
+    {
+        let mut walk = Walk {
+            list: self.list,
+            at: self.at,
+            left: self.left,
+        };
+        walk.next().is_none()
+    }
+
     /// Passes a token.
     pub(crate) fn next(&mut self) -> Option<&'a Token>
-        ensures { MatchOption result ((self.old ≡ []) × (self.new ≡ [])) (λ t. self.old ≡ t.now ∷ self.new) }
+        ensures { MatchOption result ((self.old ≡ []) × (self.new ≡ []))
+            (λ t. self.old ≡ t.now ∷ self.new) }
     {
         let list = self.list;
         list.are_numbered();

@@ -5,7 +5,7 @@ use Rattle.cx_macro.proofs.arguments.bracketed.Goals as goal
 pub returns-then-closes : goal.returns-then-closes
 returns-then-closes c =
     let i = c.loop-token.invariant in (
-      record { inner = i.0; closing = c.in-Some.token.now; behind = c.next.new.self },
+      record { inner = i.0; closing = c.in-Some.token.now; after = c.next.new.self },
       bracketed_closes i.0 c.loop-token.text c.next.new.self c.loop-token.depth c.in-Some.token.now _ i.2 c.in-Some.ensures
           (let t = c.if-closes.true in let e = c.closes.ensures in cc),
       i.1,

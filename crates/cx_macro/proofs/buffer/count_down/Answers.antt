@@ -1,5 +1,5 @@
 use Rattle.std.proofs.Common.{◌∙◌, sym, ap, []}
-use Rattle.cx_macro.specs.Segments.{more_of}
+use Rattle.cx_macro.specs.Shapes.Segments.{more_of}
 use Rattle.cx_macro.proofs.SegmentLaws as laws
 use Rattle.cx_macro.proofs.buffer.count_down.Goals as goal
 

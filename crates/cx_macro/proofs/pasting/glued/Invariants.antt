@@ -1,10 +1,10 @@
 use Rattle.std.proofs.Common.{length}
-use Rattle.cx_macro.specs.Parts.{parts}
+use Rattle.cx_macro.specs.Shapes.Substitutes.{substitutes_of_code}
 use Rattle.cx_macro.proofs.PastingLaws.{Gluing}
 use Rattle.cx_macro.proofs.pasting.glued.Given as goal
 
-abbrev pub invariant-loop-piece : goal.invariant-loop-piece
-invariant-loop-piece l = Gluing (parts l.initial.pieces) l.front.items l.left.items (parts l.pieces)
+abbrev pub invariant-loop-substitute : goal.invariant-loop-substitute
+invariant-loop-substitute l = Gluing (substitutes_of_code l.initial.substitutes) l.front.items l.left.items (substitutes_of_code l.substitutes)
 
-abbrev pub decreases-loop-piece : goal.decreases-loop-piece
-decreases-loop-piece l = length l.pieces
+abbrev pub decreases-loop-substitute : goal.decreases-loop-substitute
+decreases-loop-substitute l = length l.substitutes

@@ -1,6 +1,6 @@
 use Rattle.cx_tokens.specs.Nodes.{tokens}
-use Rattle.cx_macro.specs.declared.expansion.Step.TheVariants.{Goes}
-use Rattle.cx_macro.specs.Steps.{StepIs}
+use Rattle.cx_macro.specs.declared.expansion.Step.TheVariants.{Ends, Goes}
+use Rattle.cx_macro.specs.Shapes.Steps.{StepIs}
 use Rattle.cx_macro.proofs.ProgressLaws.{on_begun}
 use Rattle.cx_macro.proofs.steps.run.Goals as goal
 
@@ -14,3 +14,8 @@ pub loop-done-smaller : goal.loop-done-smaller
 loop-done-smaller c =
     let s : StepIs c.args.macros.now c.args.bound c.loop-done.state (Goes c.in-Goes.next) = rw c.in-Goes.is at c.in_ok-done.ensures.new in
     s.less c.args.laid (tokens c.args.list) c.loop-done.invariant.known
+
+pub returns-in-Ends-clause-partners : goal.returns-in-Ends-clause-partners
+returns-in-Ends-clause-partners c =
+    let s : StepIs c.args.macros.now c.args.bound c.loop-done.state (Ends c.in-Ends.done c.in-Ends.laid) = rw c.in-Ends.is at c.in_ok-done.ensures.new in
+    (s.1 c.args.laid (tokens c.args.list) c.loop-done.invariant.known).1

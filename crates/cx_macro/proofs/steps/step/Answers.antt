@@ -10,7 +10,7 @@ returns-in-Some-clause-new c =
 pub returns-in-None-clause-new : goal.returns-in-None-clause-new
 returns-in-None-clause-new c =
     step_ends c.args.macros.now c.args.bound c.args.state c.pop.new.self c.into_list.result c.requires c.in_default.ensures.1 c.in_default.ensures.0 c.in-None.ensures.0
-    c.into_list.ensures
+    c.into_list.ensures.tokens c.into_list.ensures.partners
 
 pub returns-clause-new : goal.returns-clause-new
 returns-clause-new c =

@@ -1,7 +1,7 @@
 use Rattle.std.proofs.Common.{◌∙◌, ap, sym, Some}
 use Rattle.std.proofs.lemmas.Result.{IfErr-weaker, IfOk-weaker}
 use Rattle.cx_macro.specs.Macros.{Definition}
-use Rattle.cx_macro.proofs.UseLaws.{use_none, use_object}
+use Rattle.cx_macro.proofs.InvocationLaws.{use_none, use_object}
 use Rattle.cx_macro.proofs.steps.take.Goals as goal
 
 pub returns-in-Itself-clause-new : goal.returns-in-Itself-clause-new

@@ -1,6 +1,6 @@
 use Rattle.std.proofs.Common.{◌∙◌, sym}
 use Rattle.std.proofs.lemmas.Result.{IfErr-weaker, IfOk-weaker}
-use Rattle.cx_macro.proofs.UseLaws.{use_name, use_object}
+use Rattle.cx_macro.proofs.InvocationLaws.{use_name, use_object}
 use Rattle.cx_macro.proofs.steps.take_name.Goals as goal
 
 pub returns-in_default-clause-new : goal.returns-in_default-clause-new

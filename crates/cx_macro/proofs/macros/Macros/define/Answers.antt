@@ -10,7 +10,7 @@ with_body parameters variadic body = record { parameters = parameters; variadic 
 pub returns : goal.returns
 unfolding with_body
 returns c = record {
-  ok = defines _ _ _ _ _ _ _ c.in_ok-insert.ensures.entries (c.in_ok-key.ensures.items ∙ c.as_slice.ensures)
+  ok = defines _ _ _ _ _ _ c.in_ok-insert.ensures.ok
       (ap (with_body c.args.made.parameters c.args.made.variadic) (c.in_ok-body.ensures ∙ c.over.ensures)) c.self.view_is;
   err = tt;
 }

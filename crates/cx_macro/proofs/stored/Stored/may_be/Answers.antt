@@ -1,6 +1,6 @@
 use Rattle.std.proofs.Common.{◌≡◌, ◌<◌, ◌∙◌, [], ap₂, bytes_eq, get_or, length, subst, sym}
 use Rattle.cx_macro.specs.Stored.{definition_of}
-use Rattle.cx_macro.proofs.PartLaws.{no_parameter, not_parameter}
+use Rattle.cx_macro.proofs.SubstituteLaws.{no_parameter, not_parameter}
 use Rattle.cx_macro.proofs.stored.Stored.may_be.Goals as goal
 
 pub returns-in_default : goal.returns-in_default

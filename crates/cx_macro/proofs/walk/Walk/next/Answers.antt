@@ -1,5 +1,5 @@
 use Rattle.std.proofs.Common.{◌≡◌, ◌∷◌, None, suc, sym, ◌∙◌, ap, arith}
-use Rattle.cx_macro.specs.Walks.{walked}
+use Rattle.cx_macro.specs.Shapes.Walks.{walked}
 use Rattle.cx_macro.specs.declared.walk.Walk.TheInside.{Inside}
 use Rattle.cx_macro.proofs.WalkLaws.{pass_all, pass_one, walk_first}
 use Rattle.cx_macro.proofs.walk.Walk.next.Goals as goal

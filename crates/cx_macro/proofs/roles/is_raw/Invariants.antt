@@ -1,0 +1,14 @@
+use Rattle.std.proofs.Common.{◌≡◌, length}
+use Rattle.std.specs.List.{list_any}
+use Rattle.cx_macro.specs.Replacement as meaning
+use Rattle.cx_macro.specs.Shapes.Roles.{takes_given}
+use Rattle.cx_macro.specs.Stored.{definition_of}
+use Rattle.cx_macro.proofs.roles.is_raw.Given as goal
+
+abbrev pub invariant-loop-position : goal.invariant-loop-position
+invariant-loop-position l =
+    list_any (λ p. takes_given l.index (meaning.role_of (definition_of l.stored) p)) l.positions
+    ≡ list_any (λ p. takes_given l.index (meaning.role_of (definition_of l.stored) p)) (meaning.positions_of l.stored.body)
+
+abbrev pub decreases-loop-position : goal.decreases-loop-position
+decreases-loop-position l = length l.positions
