@@ -6,30 +6,30 @@ use Rattle.cx_first.specs.declared.tree.Expr.{Expr}
 use Rattle.cx_first.specs.declared.tree.Expr.TheVariants.{Number, Variable, Negation, Binary, Brackets}
 use Rattle.cx_first.specs.declared.tree.Operator.{Operator}
 use Rattle.cx_first.specs.declared.tree.Operator.TheVariants.{Add, Subtract, Multiply, Divide}
-use Rattle.cx_first.specs.declared.signs.Sign.{Sign}
-use Rattle.cx_first.specs.declared.signs.Sign.TheVariants as sign_is
+use Rattle.cx_first.specs.declared.terminals.Terminal.{Terminal}
+use Rattle.cx_first.specs.declared.terminals.Terminal.TheVariants as terminal_is
 use Rattle.cx_first.specs.Tree.{Tree, tree_of, binary, brackets}
 use Rattle.cx_first.specs.Names.{Names, index_of}
-use Rattle.cx_first.specs.Signs.{sign}
+use Rattle.cx_first.specs.Terminals.{terminal}
 use Rattle.cx_first.specs.Grammar.{Reads, a_number, a_variable, a_negation, in_brackets, a_chain, Chains, ends, goes_on, operator_of, level_of}
-use Rattle.cx_first.specs.Descent.{Stops, OperatorAt, NoOperator, SignAt}
+use Rattle.cx_first.specs.Descent.{Stops, OperatorAt, NoOperator, TerminalAt}
 use Rattle.cx_first.proofs.TreeLaws.{tree_number, tree_variable, tree_negation, tree_binary, tree_brackets}
 
 -- together
-pub reads_number : (names : Names) (p : Piece) (n : ℕ) (rest : List Piece) → sign p ≡ sign_is.Number n
+pub reads_number : (names : Names) (p : Piece) (n : ℕ) (rest : List Piece) → terminal p ≡ terminal_is.Number n
     → Reads names 0 (p ∷ rest) (tree_of (Number n p.token.place)) rest
 reads_number names p n rest e = rw tree_number (a_number e)
 
-pub reads_variable : (names : Names) (p : Piece) (i : ℕ) (rest : List Piece) → sign p ≡ sign_is.Name → index_of names p.token.text ≡ Some i
+pub reads_variable : (names : Names) (p : Piece) (i : ℕ) (rest : List Piece) → terminal p ≡ terminal_is.Name → index_of names p.token.text ≡ Some i
     → Reads names 0 (p ∷ rest) (tree_of (Variable i p.token.place)) rest
 reads_variable names p i rest e f = rw tree_variable (a_variable e f)
 
-pub reads_negation : (names : Names) (p : Piece) (a : Expr) (ts rest : List Piece) → sign p ≡ sign_is.Minus → Reads names 0 ts (tree_of a) rest
+pub reads_negation : (names : Names) (p : Piece) (a : Expr) (ts rest : List Piece) → terminal p ≡ terminal_is.Minus → Reads names 0 ts (tree_of a) rest
     → Reads names 0 (p ∷ ts) (tree_of (Negation p.token.place a)) rest
 reads_negation names p a ts rest e f = rw tree_negation (a_negation e f)
 
-pub reads_brackets : (names : Names) (p : Piece) (a : Expr) (ts behind rest : List Piece) → sign p ≡ sign_is.Open
-    → Reads names 2 ts (tree_of a) behind → SignAt sign_is.Close behind rest → Reads names 0 (p ∷ ts) (tree_of (Brackets a)) rest
+pub reads_brackets : (names : Names) (p : Piece) (a : Expr) (ts behind rest : List Piece) → terminal p ≡ terminal_is.Open
+    → Reads names 2 ts (tree_of a) behind → TerminalAt terminal_is.Close behind rest → Reads names 0 (p ∷ ts) (tree_of (Brackets a)) rest
 reads_brackets names p a ts behind rest e f g =
     rw tree_brackets (in_brackets e (subst (λ b. Reads names 2 ts (tree_of a) b) g.whole f) g.signed)
 
@@ -44,22 +44,22 @@ chains_more names level below a b op p pieces behind after end t e o r g =
     rw o.whole (goes_on o.operator o.binds e r (rw tree_binary at g))
 
 -- apart
-pub operator_level : (s : Sign) (op : Operator) → operator_of s ≡ Some op → (0 < level_of op) × (level_of op ≤ 2)
+pub operator_level : (s : Terminal) (op : Operator) → operator_of s ≡ Some op → (0 < level_of op) × (level_of op ≤ 2)
 unfolding level_of
 operator_level s Multiply e = (omega arith, omega arith)
 operator_level s Divide e = (omega arith, omega arith)
 operator_level s Add e = (omega arith, omega arith)
 operator_level s Subtract e = (omega arith, omega arith)
 
-no_operator : (op : Operator) → operator_of sign_is.Close ≡ Some op → ⊥
+no_operator : (op : Operator) → operator_of terminal_is.Close ≡ Some op → ⊥
 unfolding operator_of
 no_operator op e = absurd cc
 
-close_stops : (s : Sign) (op : Operator) → s ≡ sign_is.Close → operator_of s ≡ Some op → ⊥
+close_stops : (s : Terminal) (op : Operator) → s ≡ terminal_is.Close → operator_of s ≡ Some op → ⊥
 close_stops s op e h = no_operator op (subst (λ x. operator_of x ≡ Some op) e h)
 
-pub closed_stops : (close : Piece) (rest : List Piece) → sign close ≡ sign_is.Close → Stops 2 (close ∷ rest)
-closed_stops close rest c = λ op e. absurd (close_stops (sign close) op c e)
+pub closed_stops : (close : Piece) (rest : List Piece) → terminal close ≡ terminal_is.Close → Stops 2 (close ∷ rest)
+closed_stops close rest c = λ op e. absurd (close_stops (terminal close) op c e)
 
 -- an expression in brackets
 pub record Bracketed (names : Names) (ts : List Piece) (t : Tree) (rest : List Piece) : Type 0 where
@@ -67,9 +67,9 @@ pub record Bracketed (names : Names) (ts : List Piece) (t : Tree) (rest : List P
   pub close : Piece
   pub tree : t ≡ brackets inner
   pub reads : Reads names 2 ts inner (close ∷ rest)
-  pub closes : sign close ≡ sign_is.Close
+  pub closes : terminal close ≡ terminal_is.Close
 
-pub bracket_parts : (names : Names) (p : Piece) (ts rest : List Piece) (t : Tree) → sign p ≡ sign_is.Open
+pub bracket_parts : (names : Names) (p : Piece) (ts rest : List Piece) (t : Tree) → terminal p ≡ terminal_is.Open
     → Reads names 0 (p ∷ ts) t rest → Bracketed names ts t rest
 bracket_parts names p ts rest t o (a_number e) = absurd cc
 bracket_parts names p ts rest t o (a_variable e f) = absurd cc
@@ -107,7 +107,7 @@ pub record Continued (names : Names) (level below : ℕ) (a : Tree) (op : Operat
   pub stops : Stops below mid
 
 pub chains_parts : {level : ℕ} {names : Names} {a t : Tree} {p : Piece} {ts rest : List Piece} (below : ℕ) (op : Operator) → level ≡ below + 1
-    → operator_of (sign p) ≡ Some op → level_of op ≡ level → Chains names level a (p ∷ ts) t rest → Stops level rest
+    → operator_of (terminal p) ≡ Some op → level_of op ≡ level → Chains names level a (p ∷ ts) t rest → Stops level rest
     → Continued names level below a op p ts t rest
 chains_parts {level} below op e o l ends s = absurd (omega (arith, s op o))
 chains_parts {level} {names} {a} {t} {p} {ts} {rest} below op e o l (goes_on {below = n} {op = other} {mid = mid} {b = b} f g h r c) s =
@@ -131,11 +131,11 @@ chains_end n (goes_on {p = p} {op = op} {ts = ts} f g h r c) = absurd (n op p ts
 pub brackets_same : (x a : Expr) (t inner : Tree) → x ≡ a → tree_of a ≡ inner → t ≡ brackets inner → tree_of (Brackets x) ≡ t
 brackets_same x a t inner e f g = tree_brackets x ∙ (ap (λ y. brackets (tree_of y)) e ∙ (ap brackets f ∙ sym g))
 
-pub sign_same : (wanted : Sign) (pieces rest other : List Piece) (p : Piece) → SignAt wanted pieces rest → pieces ≡ p ∷ other → rest ≡ other
-sign_same wanted pieces rest other p c e = let k : c.piece ∷ rest ≡ p ∷ other = sym c.whole ∙ e in cc
+pub terminal_same : (wanted : Terminal) (pieces rest other : List Piece) (p : Piece) → TerminalAt wanted pieces rest → pieces ≡ p ∷ other → rest ≡ other
+terminal_same wanted pieces rest other p c e = let k : c.piece ∷ rest ≡ p ∷ other = sym c.whole ∙ e in cc
 
-pub sign_is_at : (wanted : Sign) (pieces rest : List Piece) (p : Piece) → sign p ≡ wanted → pieces ≡ p ∷ rest → SignAt wanted pieces rest
-sign_is_at wanted pieces rest p c e = record { piece = p; whole = e; signed = c }
+pub terminal_is_at : (wanted : Terminal) (pieces rest : List Piece) (p : Piece) → terminal p ≡ wanted → pieces ≡ p ∷ rest → TerminalAt wanted pieces rest
+terminal_is_at wanted pieces rest p c e = record { piece = p; whole = e; signed = c }
 
 pub binary_same : (x a y b : Expr) (op : Operator) (at : Place) (left right : Tree) → x ≡ a → tree_of a ≡ left → y ≡ b → tree_of b ≡ right
     → tree_of (Binary op at x y) ≡ binary op at left right

@@ -3,77 +3,77 @@ use Rattle.std.proofs.Common.{◌≡◌, ℕ, zero, suc, ◌+◌, ◌≤◌, ◌
 use Rattle.std.proofs.lemmas.Bool.Decides.{nat_tests}
 use Rattle.cx_lex.specs.declared.piece.Piece.{Piece}
 use Rattle.cx_first.specs.declared.tree.Operator.{Operator}
-use Rattle.cx_first.specs.declared.signs.Sign.{Sign}
-use Rattle.cx_first.specs.declared.signs.Sign.TheVariants as sign_is
+use Rattle.cx_first.specs.declared.terminals.Terminal.{Terminal}
+use Rattle.cx_first.specs.declared.terminals.Terminal.TheVariants as terminal_is
 use Rattle.cx_first.specs.Tree.{Tree}
 use Rattle.cx_first.specs.Names.{Names}
-use Rattle.cx_first.specs.Signs.{sign}
+use Rattle.cx_first.specs.Terminals.{terminal}
 use Rattle.cx_first.specs.Grammar.{Reads, a_number, a_variable, a_negation, in_brackets, a_chain, Chains, ends, goes_on, operator_of, Expression}
 use Rattle.cx_first.specs.Descent.{ends_expression, one_more, ends_after}
 
 -- none of the pieces ends an expression
 abbrev pub Inside : List Piece → Type 0
 Inside [] = Unit {0}
-Inside (p ∷ rest) = (ends_expression (sign p) ≡ false) × Inside rest
+Inside (p ∷ rest) = (ends_expression (terminal p) ≡ false) × Inside rest
 
-operator_inside : (s : Sign) (op : Operator) → operator_of s ≡ Some op → ends_expression s ≡ false
+operator_inside : (s : Terminal) (op : Operator) → operator_of s ≡ Some op → ends_expression s ≡ false
 unfolding operator_of ends_expression
-operator_inside sign_is.Plus op e = refl
-operator_inside sign_is.Minus op e = refl
-operator_inside sign_is.Star op e = refl
-operator_inside sign_is.Slash op e = refl
-operator_inside sign_is.Comma op e = absurd cc
-operator_inside sign_is.Semicolon op e = absurd cc
-operator_inside sign_is.Int op e = absurd cc
-operator_inside sign_is.Void op e = absurd cc
-operator_inside sign_is.Return op e = absurd cc
-operator_inside sign_is.Name op e = absurd cc
-operator_inside (sign_is.Number n) op e = absurd cc
-operator_inside sign_is.Open op e = absurd cc
-operator_inside sign_is.Close op e = absurd cc
-operator_inside sign_is.Begin op e = absurd cc
-operator_inside sign_is.End op e = absurd cc
-operator_inside sign_is.Equals op e = absurd cc
-operator_inside sign_is.Foreign op e = absurd cc
+operator_inside terminal_is.Plus op e = refl
+operator_inside terminal_is.Minus op e = refl
+operator_inside terminal_is.Star op e = refl
+operator_inside terminal_is.Slash op e = refl
+operator_inside terminal_is.Comma op e = absurd cc
+operator_inside terminal_is.Semicolon op e = absurd cc
+operator_inside terminal_is.Int op e = absurd cc
+operator_inside terminal_is.Void op e = absurd cc
+operator_inside terminal_is.Return op e = absurd cc
+operator_inside terminal_is.Name op e = absurd cc
+operator_inside (terminal_is.Number n) op e = absurd cc
+operator_inside terminal_is.Open op e = absurd cc
+operator_inside terminal_is.Close op e = absurd cc
+operator_inside terminal_is.Begin op e = absurd cc
+operator_inside terminal_is.End op e = absurd cc
+operator_inside terminal_is.Equals op e = absurd cc
+operator_inside terminal_is.Foreign op e = absurd cc
 
-sign_inside : (s wanted : Sign) → s ≡ wanted → ends_expression wanted ≡ false → ends_expression s ≡ false
-sign_inside s wanted e h = ap ends_expression e ∙ h
+terminal_inside : (s wanted : Terminal) → s ≡ wanted → ends_expression wanted ≡ false → ends_expression s ≡ false
+terminal_inside s wanted e h = ap ends_expression e ∙ h
 
-number_inside : (n : ℕ) → ends_expression (sign_is.Number n) ≡ false
+number_inside : (n : ℕ) → ends_expression (terminal_is.Number n) ≡ false
 unfolding ends_expression
 number_inside n = refl
 
-name_inside : ends_expression sign_is.Name ≡ false
+name_inside : ends_expression terminal_is.Name ≡ false
 unfolding ends_expression
 name_inside = refl
 
-minus_inside : ends_expression sign_is.Minus ≡ false
+minus_inside : ends_expression terminal_is.Minus ≡ false
 unfolding ends_expression
 minus_inside = refl
 
-open_inside : ends_expression sign_is.Open ≡ false
+open_inside : ends_expression terminal_is.Open ≡ false
 unfolding ends_expression
 open_inside = refl
 
-close_inside : ends_expression sign_is.Close ≡ false
+close_inside : ends_expression terminal_is.Close ≡ false
 unfolding ends_expression
 close_inside = refl
 
 mutual
   pub reads_inside : {names : Names} {level : ℕ} {ts rest : List Piece} {t : Tree} → Reads names level ts t rest → Inside rest → Inside ts
-  reads_inside (a_number {p = p} {n = n} e) i = (sign_inside (sign p) (sign_is.Number n) e (number_inside n), i)
-  reads_inside (a_variable {p = p} e f) i = (sign_inside (sign p) sign_is.Name e name_inside, i)
-  reads_inside (a_negation {p = p} e f) i = (sign_inside (sign p) sign_is.Minus e minus_inside, reads_inside f i)
+  reads_inside (a_number {p = p} {n = n} e) i = (terminal_inside (terminal p) (terminal_is.Number n) e (number_inside n), i)
+  reads_inside (a_variable {p = p} e f) i = (terminal_inside (terminal p) terminal_is.Name e name_inside, i)
+  reads_inside (a_negation {p = p} e f) i = (terminal_inside (terminal p) terminal_is.Minus e minus_inside, reads_inside f i)
   reads_inside (in_brackets {p = p} {q = q} e f g) i =
-      (sign_inside (sign p) sign_is.Open e open_inside, reads_inside f (sign_inside (sign q) sign_is.Close g close_inside, i))
+      (terminal_inside (terminal p) terminal_is.Open e open_inside, reads_inside f (terminal_inside (terminal q) terminal_is.Close g close_inside, i))
   reads_inside (a_chain e f g) i = reads_inside f (chains_inside g i)
 
   pub chains_inside : {names : Names} {level : ℕ} {a t : Tree} {ts rest : List Piece} → Chains names level a ts t rest → Inside rest → Inside ts
   chains_inside ends i = i
-  chains_inside (goes_on {p = p} {op = op} o l e r g) i = (operator_inside (sign p) op o, reads_inside r (chains_inside g i))
+  chains_inside (goes_on {p = p} {op = op} o l e r g) i = (operator_inside (terminal p) op o, reads_inside r (chains_inside g i))
 
 -- where the first mark stands
-before_mark : (limit : ℕ) (es : List Piece) (last : Piece) (rest : List Piece) → Inside es → ends_expression (sign last) ≡ true
+before_mark : (limit : ℕ) (es : List Piece) (last : Piece) (rest : List Piece) → Inside es → ends_expression (terminal last) ≡ true
     → length es ≤ limit → ends_after limit (es ++ last ∷ rest) ≡ Some (length es)
 unfolding ends_after
 before_mark limit [] last rest i m h = rw m refl
@@ -87,7 +87,7 @@ pub record Marked (limit n : ℕ) (pieces : List Piece) : Type 0 where
   pub behind : drop n pieces ≡ last ∷ rest
   pub short : length (take n pieces) ≤ limit
   pub whole : pieces ≡ take n pieces ++ last ∷ rest
-  pub ends : ends_expression (sign last) ≡ true
+  pub ends : ends_expression (terminal last) ≡ true
 
 map_suc : (o : Option ℕ) (n : ℕ) → option_map suc o ≡ Some n → (m : ℕ) × (n ≡ suc m) × (o ≡ Some m)
 map_suc None n e = absurd cc
@@ -106,7 +106,7 @@ further limit n p rest (m, e, f) go =
       ends = k.ends;
     })
 
-marked_at : (limit n : ℕ) (p : Piece) (rest : List Piece) (b : Bool) → ends_expression (sign p) ≡ b
+marked_at : (limit n : ℕ) (p : Piece) (rest : List Piece) (b : Bool) → ends_expression (terminal p) ≡ b
     → one_more b limit (λ fewer. ends_after fewer rest) ≡ Some n
     → ((fewer m : ℕ) → ends_after fewer rest ≡ Some m → Marked fewer m rest) → Marked limit n (p ∷ rest)
 marked_at limit zero p rest true t e go =
@@ -118,7 +118,7 @@ marked_at (suc limit) n p rest false t e go = further limit n p rest (map_suc (e
 pub marked : (limit n : ℕ) (pieces : List Piece) → ends_after limit pieces ≡ Some n → Marked limit n pieces
 unfolding ends_after
 marked limit n [] e = absurd cc
-marked limit n (p ∷ rest) e = marked_at limit n p rest (ends_expression (sign p)) refl e (λ fewer m f. marked fewer m rest f)
+marked limit n (p ∷ rest) e = marked_at limit n p rest (ends_expression (terminal p)) refl e (λ fewer m f. marked fewer m rest f)
 
 -- counting goes on piece by piece
 map_sum : (count : ℕ) (o : Option ℕ) → option_map (λ n. count + n) (option_map suc o) ≡ option_map (λ n. count + 1 + n) o
@@ -126,7 +126,7 @@ map_sum count None = refl
 map_sum count (Some n) = ap Some (omega arith)
 
 pub counts_stop : (all : Option ℕ) (left count : ℕ) (p : Piece) (behind rest : List Piece)
-    → all ≡ option_map (λ n. count + n) (ends_after left rest) → rest ≡ p ∷ behind → ends_expression (sign p) ≡ true → Some count ≡ all
+    → all ≡ option_map (λ n. count + n) (ends_after left rest) → rest ≡ p ∷ behind → ends_expression (terminal p) ≡ true → Some count ≡ all
 unfolding ends_after
 counts_stop all left count p behind rest g r t =
     let here : ends_after left (p ∷ behind) ≡ Some 0 = rw t refl in
@@ -134,7 +134,7 @@ counts_stop all left count p behind rest g r t =
     sym (g ∙ (same ∙ ap Some (omega arith)))
 
 pub counts_out : (all : Option ℕ) (left count : ℕ) (p : Piece) (behind rest : List Piece)
-    → all ≡ option_map (λ n. count + n) (ends_after left rest) → rest ≡ p ∷ behind → ends_expression (sign p) ≡ false → left ≡ 0 → None ≡ all
+    → all ≡ option_map (λ n. count + n) (ends_after left rest) → rest ≡ p ∷ behind → ends_expression (terminal p) ≡ false → left ≡ 0 → None ≡ all
 unfolding ends_after
 counts_out all left count p behind rest g r t z =
     let here : ends_after left (p ∷ behind) ≡ None = rw (z, t) refl in
@@ -142,7 +142,7 @@ counts_out all left count p behind rest g r t z =
     sym (g ∙ same)
 
 pub counts_on : (all : Option ℕ) (left fewer count : ℕ) (p : Piece) (behind rest : List Piece)
-    → all ≡ option_map (λ n. count + n) (ends_after left rest) → rest ≡ p ∷ behind → ends_expression (sign p) ≡ false → left ≡ suc fewer
+    → all ≡ option_map (λ n. count + n) (ends_after left rest) → rest ≡ p ∷ behind → ends_expression (terminal p) ≡ false → left ≡ suc fewer
     → all ≡ option_map (λ n. count + 1 + n) (ends_after fewer behind)
 unfolding ends_after
 counts_on all left fewer count p behind rest g r t z =
@@ -158,7 +158,7 @@ counts_none all left count rest g r =
     sym (g ∙ same)
 
 -- the reader's parts of an expression
-pub expression_counted : (limit : ℕ) (names : Names) (ts : List Piece) (t : Tree) (mark : Sign) (rest : List Piece)
+pub expression_counted : (limit : ℕ) (names : Names) (ts : List Piece) (t : Tree) (mark : Terminal) (rest : List Piece)
     → (e : Expression limit names ts t mark rest) → ends_expression mark ≡ true → ends_after limit ts ≡ Some (length e.pieces)
 expression_counted limit names ts t mark rest e m =
     rw e.whole (before_mark limit e.pieces e.last rest (reads_inside e.reads tt) (ap ends_expression e.marked ∙ m) e.short)
@@ -171,7 +171,7 @@ drop_front : (es more : List Piece) → drop (length es) (es ++ more) ≡ more
 drop_front [] more = refl
 drop_front (e ∷ es) more = drop_front es more
 
-pub parts_of : (limit : ℕ) (names : Names) (ts front back : List Piece) (t : Tree) (mark : Sign) (rest : List Piece) (count : ℕ)
+pub parts_of : (limit : ℕ) (names : Names) (ts front back : List Piece) (t : Tree) (mark : Terminal) (rest : List Piece) (count : ℕ)
     (e : Expression limit names ts t mark rest) → ends_expression mark ≡ true → Some count ≡ ends_after limit ts
     → front ≡ take count ts → back ≡ drop count ts → (front ≡ e.pieces) × (back ≡ e.last ∷ rest)
 parts_of limit names ts front back t mark rest count e m c f b =
@@ -187,8 +187,8 @@ pub full_is : (ts : List Piece) → false ≡ (length ts == 0) → ts ≡ [] →
 full_is [] h e = absurd cc
 full_is (p ∷ rest) h e = absurd cc
 
-pub expression_made : (limit : ℕ) (names : Names) (ts front back left : List Piece) (t : Tree) (last : Piece) (mark : Sign) (rest : List Piece) (count : ℕ)
-    → Some count ≡ ends_after limit ts → front ≡ take count ts → back ≡ drop count ts → back ≡ last ∷ rest → mark ≡ sign last
+pub expression_made : (limit : ℕ) (names : Names) (ts front back left : List Piece) (t : Tree) (last : Piece) (mark : Terminal) (rest : List Piece) (count : ℕ)
+    → Some count ≡ ends_after limit ts → front ≡ take count ts → back ≡ drop count ts → back ≡ last ∷ rest → mark ≡ terminal last
     → Reads names 2 front t left → left ≡ [] → Expression limit names ts t mark rest
 expression_made limit names ts front back left t last mark rest count c f b d m r n =
     let k = marked limit count ts (sym c) in

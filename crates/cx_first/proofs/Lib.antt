@@ -2,7 +2,7 @@ pub mod TreeLaws
 pub mod CountingLaws
 pub mod RunLaws
 pub mod StepLaws
-pub mod SignLaws
+pub mod TerminalLaws
 pub mod NameLaws
 pub mod DescentLaws
 pub mod ExpressionLaws

@@ -1,47 +1,37 @@
--- Looking a name up among owned texts is looking it up among their bytes.
-use Rattle.std.proofs.Common.{◌≡◌, ℕ, ◌+◌, ◌≤◌, Bool, ◌||◌, if◌then◌else◌, true, false, not, cond, List, [], ◌∷◌, ◌++◌, length, map, Option, Some, None, refl, sym, ◌∙◌, ap, arith, position, bytes_eq, nat_lt}
-use Rattle.std.proofs.lemmas.List.{length-map, map-append}
-use Rattle.std.proofs.lemmas.Bool.Decides.{nat_tests}
-use Rattle.std.specs.List.{list_any, position_or_len}
+-- Names in a table of names alone.
+use Rattle.std.proofs.Common.{◌≡◌, ℕ, ◌+◌, ◌<◌, List, [], ◌∷◌, ◌++◌, map, take, length, Option, None, Some, option_map, slice_get, refl, sym, ◌∙◌, ap}
+use Rattle.std.proofs.lemmas.List.{map-append, take_more}
+use Rattle.std.proofs.lemmas.Option.{slice_get-map, slice_get-get_or, slice_get_within, get_or_from_slice_get}
+use Rattle.cx_table.specs.NameTable.{Entries, names_of, with_entry}
+use Rattle.cx_table.specs.NameTable as table
+use Rattle.cx_table.proofs.TableLaws.{with_entry-new}
 use Rattle.cx_first.specs.Names.{Names, index_of}
 
-position_or_len_map : {X Y : Type 0} (f : X → Y) (p : Y → Bool) (xs : List X) → position_or_len p (map f xs) ≡ position_or_len (λ x. p (f x)) xs
-position_or_len_map f p [] = refl
-position_or_len_map f p (x ∷ xs) = ap (λ n. cond (not (p (f x))) (1 + n) 0) (position_or_len_map f p xs)
+-- the index of a name is that among the names
+index_is : (entries : Entries (Unit {0})) (name : List ℕ) → table.index_of entries name ≡ index_of (names_of entries) name
+unfolding index_of table.index_of
+index_is entries name = refl
 
-pub position_map : {X Y : Type 0} (f : X → Y) (p : Y → Bool) (xs : List X) → position p (map f xs) ≡ position (λ x. p (f x)) xs
-position_map f p xs = rw (position_or_len_map f p xs, length-map xs f) refl
+pub found : (entries : Entries (Unit {0})) (names : Names) (name : List ℕ) (r : Option ℕ) → names_of entries ≡ names
+    → r ≡ table.index_of entries name → r ≡ index_of names name
+found entries names name r m e = e ∙ (index_is entries name ∙ ap (λ n. index_of n name) m)
 
--- what is found at no position is found nowhere
-none_past : {X : Type 0} (p : X → Bool) (xs : List X) → position p xs ≡ None → length xs ≤ position_or_len p xs
-none_past p xs e = elim (nat_lt (position_or_len p xs) (length xs)) as (λ b. nat_lt (position_or_len p xs) (length xs) ≡ b → cond b (Some (position_or_len p xs)) None ≡ None → length xs ≤ position_or_len p xs) [
-  | true ↦ λ t n. absurd cc
-  | false ↦ λ t n. grind (arith, nat_tests, t)
-] refl e
+-- the names after a new one
+pub declared : (entries new : Entries (Unit {0})) (names : Names) (name : List ℕ) → names_of entries ≡ names
+    → new ≡ with_entry name tt entries → index_of names name ≡ None → names_of new ≡ names ++ name ∷ []
+declared entries new names name m e absent =
+    let none : table.index_of entries name ≡ None = index_is entries name ∙ (ap (λ n. index_of n name) m ∙ absent) in
+    ap names_of (e ∙ with_entry-new name tt entries none) ∙ (map-append (λ e. e.0) entries ((name, tt) ∷ []) ∙ ap (λ n. n ++ name ∷ []) m)
 
-past_any : {X : Type 0} (p : X → Bool) (xs : List X) → length xs ≤ position_or_len p xs → list_any p xs ≡ false
-past_any p [] h = refl
-past_any p (x ∷ xs) h = elim (p x) as (λ b. length (x ∷ xs) ≤ cond (not b) (1 + position_or_len p xs) 0 → (b || list_any p xs) ≡ false) [
-  | true ↦ λ k. absurd (omega arith)
-  | false ↦ λ k. past_any p xs (omega arith)
-] h
+-- the names up to the next one
+pub next_name : (entries : Entries (Unit {0})) (names : Names) (i : ℕ) (name : List ℕ) → names_of entries ≡ names
+    → Some (name, tt) ≡ slice_get entries i → take (i + 1) names ≡ take i names ++ name ∷ []
+next_name entries names i name m e =
+    let at : slice_get (names_of entries) i ≡ Some name = slice_get-map (λ e. e.0) entries i ∙ ap (option_map (λ e. e.0)) (sym e) in
+    let here : slice_get names i ≡ Some name = ap (λ n. slice_get n i) (sym m) ∙ at in
+    take_more names i name (slice_get_within names i name here)
+    ∙ ap (λ n. take i names ++ n ∷ []) (get_or_from_slice_get names i name name here)
 
-list_any_map : {X Y : Type 0} (f : X → Y) (p : Y → Bool) (xs : List X) → list_any p (map f xs) ≡ list_any (λ x. p (f x)) xs
-list_any_map f p [] = refl
-list_any_map f p (x ∷ xs) = ap (λ b. p (f x) || b) (list_any_map f p xs)
-
-pub declared : {V : Type 0} (f : V → List ℕ) (keys new : List V) (v : V) (names : Names) (name : List ℕ)
-    → map f keys ≡ names → f v ≡ name → new ≡ (if list_any (λ y. bytes_eq (f v) (f y)) keys then keys else keys ++ v ∷ [])
-    → index_of names name ≡ None → map f new ≡ names ++ name ∷ []
-unfolding index_of
-declared f keys new v names name m n e absent =
-    let far : list_any (bytes_eq name) names ≡ false = past_any (bytes_eq name) names (none_past (bytes_eq name) names absent) in
-    let here : list_any (bytes_eq (f v)) (map f keys) ≡ false = rw (m, n) far in
-    let none : list_any (λ y. bytes_eq (f v) (f y)) keys ≡ false = sym (list_any_map f (bytes_eq (f v)) keys) ∙ here in
-    let new_is : new ≡ keys ++ v ∷ [] = rw none at e in
-    rw (new_is, map-append f keys (v ∷ []), m, n) refl
-
-pub found : {V : Type 0} (f : V → List ℕ) (keys : List V) (names : Names) (name : List ℕ) (r : Option ℕ) → map f keys ≡ names
-    → r ≡ position (λ y. bytes_eq name (f y)) keys → r ≡ index_of names name
-unfolding index_of
-found f keys names name r m e = e ∙ (sym (position_map f (bytes_eq name) keys) ∙ ap (λ x. position (bytes_eq name) x) m)
+-- there is an entry at each index below their count
+pub some_entry : (entries : Entries (Unit {0})) (i : ℕ) → i < length entries → slice_get entries i ≡ None → ⊥
+some_entry entries i h e = absurd (cc (slice_get-get_or entries i ([], tt) h, e))

@@ -24,7 +24,7 @@ use Rattle.cx_first.specs.Names.{Names}
 use Rattle.cx_first.specs.Tree.{Tree, tree_of, form_of, source_of, number, variable, negation, binary, brackets, Source}
 use Rattle.cx_first.specs.Evaluation.{Memory, Made, made, last_node, goes_on, then_make, held, on_int, operation_of, cause_of}
 use Rattle.cx_first.specs.Runs.{evaluates, expression, IsStuck, StopsAt}
-use Rattle.cx_first.specs.Nodes.{nodes, place_of, sign_of, name_of, text_of, node_tree, written, node_of, FoundIs, CanStop}
+use Rattle.cx_first.specs.Nodes.{nodes, place_of, symbol_of, name_of, text_of, node_tree, written, node_of, FoundIs, CanStop}
 
 -- the nodes of each variant
 pub nodes_number : (n : ℕ) (at : Place) → nodes (tree_of (Number n at)) ≡ tree_of (Number n at) ∷ []
@@ -125,7 +125,7 @@ unfolding text_of
 text_negation names at a = rw tree_negation refl
 
 pub text_binary : (names : Names) (op : Operator) (at : Place) (a b : Expr) → text_of names (tree_of (Binary op at a b))
-    ≡ text_of names (tree_of a) ++ (sign_of op ++ text_of names (tree_of b))
+    ≡ text_of names (tree_of a) ++ (symbol_of op ++ text_of names (tree_of b))
 unfolding text_of
 text_binary names op at a b = rw tree_binary refl
 
@@ -140,7 +140,7 @@ push_negation names e at a old mid new r s m h =
     rw (s, text_negation, ← append_assoc old (codes "-") (text_of names (tree_of a)), ← m) h
 
 pub push_binary : (names : Names) (e : Expr) (op : Operator) (at : Place) (a b : Expr) (old left mid new : List ℕ) (r : Result ⊤ NoMemory)
-    → e ≡ Binary op at a b → left ≡ old ++ text_of names (tree_of a) → mid ≡ left ++ sign_of op
+    → e ≡ Binary op at a b → left ≡ old ++ text_of names (tree_of a) → mid ≡ left ++ symbol_of op
     → OnOk r (new ≡ mid ++ text_of names (tree_of b)) → OnOk r (new ≡ old ++ text_of names (tree_of e))
 push_binary names e op at a b old left mid new r s l m h =
     let whole : mid ++ text_of names (tree_of b) ≡ old ++ text_of names (tree_of e) =

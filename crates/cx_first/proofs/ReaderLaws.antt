@@ -3,60 +3,60 @@ use Rattle.std.proofs.Common.{◌≡◌, ℕ, true, false, List, [], ◌∷◌, 
 use Rattle.std.proofs.lemmas.List.{map-append}
 use Rattle.cx_lex.specs.declared.piece.Piece.{Piece}
 use Rattle.cx_first.specs.declared.tree.Statement.{Statement}
-use Rattle.cx_first.specs.declared.signs.Sign.{Sign}
-use Rattle.cx_first.specs.declared.signs.Sign.TheVariants as sign_is
+use Rattle.cx_first.specs.declared.terminals.Terminal.{Terminal}
+use Rattle.cx_first.specs.declared.terminals.Terminal.TheVariants as terminal_is
 use Rattle.cx_first.specs.declared.statements.Awaits.{Awaits}
 use Rattle.cx_first.specs.declared.statements.Awaits.TheVariants as awaits
 use Rattle.cx_first.specs.Tree.{Form, form_of, Source}
 use Rattle.cx_first.specs.Names.{Names}
-use Rattle.cx_first.specs.Signs.{sign}
+use Rattle.cx_first.specs.Terminals.{terminal}
 use Rattle.cx_first.specs.Grammar.{assignment, a_return, Reading, a_declaration, a_statement, Body, closed, more, ReadsText, nothing, a_function}
-use Rattle.cx_first.specs.Descent.{SignAt, is_end, is_closed, HeaderAt}
+use Rattle.cx_first.specs.Descent.{TerminalAt, is_end, is_closed, HeaderAt}
 
--- the same sign at the same place has the same behind it
-pub sign_along : (wanted : Sign) (pieces others rest behind : List Piece) → SignAt wanted pieces rest → SignAt wanted others behind → pieces ≡ others → rest ≡ behind
-sign_along wanted pieces others rest behind a b e =
+-- the same terminal at the same place has the same behind it
+pub terminal_along : (wanted : Terminal) (pieces others rest behind : List Piece) → TerminalAt wanted pieces rest → TerminalAt wanted others behind → pieces ≡ others → rest ≡ behind
+terminal_along wanted pieces others rest behind a b e =
     let k : a.piece ∷ rest ≡ b.piece ∷ behind = sym a.whole ∙ (e ∙ b.whole) in cc
 
 -- the end of a body
-end_is : (s : Sign) → is_end s ≡ true → s ≡ sign_is.End
-end_is sign_is.End e = refl
-end_is sign_is.Comma e = absurd cc
-end_is sign_is.Semicolon e = absurd cc
-end_is sign_is.Plus e = absurd cc
-end_is sign_is.Minus e = absurd cc
-end_is sign_is.Star e = absurd cc
-end_is sign_is.Slash e = absurd cc
-end_is sign_is.Int e = absurd cc
-end_is sign_is.Void e = absurd cc
-end_is sign_is.Return e = absurd cc
-end_is sign_is.Name e = absurd cc
-end_is (sign_is.Number n) e = absurd cc
-end_is sign_is.Open e = absurd cc
-end_is sign_is.Close e = absurd cc
-end_is sign_is.Begin e = absurd cc
-end_is sign_is.Equals e = absurd cc
-end_is sign_is.Foreign e = absurd cc
+end_is : (s : Terminal) → is_end s ≡ true → s ≡ terminal_is.End
+end_is terminal_is.End e = refl
+end_is terminal_is.Comma e = absurd cc
+end_is terminal_is.Semicolon e = absurd cc
+end_is terminal_is.Plus e = absurd cc
+end_is terminal_is.Minus e = absurd cc
+end_is terminal_is.Star e = absurd cc
+end_is terminal_is.Slash e = absurd cc
+end_is terminal_is.Int e = absurd cc
+end_is terminal_is.Void e = absurd cc
+end_is terminal_is.Return e = absurd cc
+end_is terminal_is.Name e = absurd cc
+end_is (terminal_is.Number n) e = absurd cc
+end_is terminal_is.Open e = absurd cc
+end_is terminal_is.Close e = absurd cc
+end_is terminal_is.Begin e = absurd cc
+end_is terminal_is.Equals e = absurd cc
+end_is terminal_is.Foreign e = absurd cc
 
 pub body_ends : (limit : ℕ) (function : List ℕ) (here : Awaits) (names : Names) (ts : List Piece) → is_closed here ts ≡ true
     → Body limit function here names ts [] names
 unfolding is_closed
-body_ends limit function awaits.Statement names (p ∷ []) e = closed (end_is (sign p) e)
+body_ends limit function awaits.Statement names (p ∷ []) e = closed (end_is (terminal p) e)
 body_ends limit function awaits.Statement names [] e = absurd cc
 body_ends limit function awaits.Statement names (p ∷ q ∷ ts) e = absurd cc
 body_ends limit function awaits.Declarator names ts e = absurd cc
 
 end_reads : {limit : ℕ} {function : List ℕ} {names then : Names} {p : Piece} {ts rest : List Piece} {form : Form} {next : Awaits}
-    → sign p ≡ sign_is.End → Reading limit function names awaits.Statement (p ∷ ts) form next then rest → ⊥
+    → terminal p ≡ terminal_is.End → Reading limit function names awaits.Statement (p ∷ ts) form next then rest → ⊥
 end_reads e (a_declaration f d g) = absurd cc
 end_reads e (a_statement (assignment f g h x)) = absurd cc
 end_reads e (a_statement (a_return f x)) = absurd cc
 
-pub closed_is : (p : Piece) → sign p ≡ sign_is.End → is_closed awaits.Statement (p ∷ []) ≡ true
+pub closed_is : (p : Piece) → terminal p ≡ terminal_is.End → is_closed awaits.Statement (p ∷ []) ≡ true
 unfolding is_closed
 closed_is p e = ap is_end e
 
-pub closed_parts : {limit : ℕ} {function : List ℕ} {names all : Names} {p : Piece} {forms : List Form} → sign p ≡ sign_is.End
+pub closed_parts : {limit : ℕ} {function : List ℕ} {names all : Names} {p : Piece} {forms : List Form} → terminal p ≡ terminal_is.End
     → Body limit function awaits.Statement names (p ∷ []) forms all → (forms ≡ []) × (all ≡ names)
 closed_parts e (closed f) = (refl, refl)
 closed_parts e (more r b) = absurd (end_reads e r)
@@ -64,7 +64,7 @@ closed_parts e (more r b) = absurd (end_reads e r)
 pub body_ended : (limit : ℕ) (function : List ℕ) (here : Awaits) (names all : Names) (ts : List Piece) (forms : List Form) → is_closed here ts ≡ true
     → Body limit function here names ts forms all → (forms ≡ []) × (all ≡ names)
 unfolding is_closed
-body_ended limit function awaits.Statement names all (p ∷ []) forms e b = closed_parts (end_is (sign p) e) b
+body_ended limit function awaits.Statement names all (p ∷ []) forms e b = closed_parts (end_is (terminal p) e) b
 body_ended limit function awaits.Statement names all [] forms e b = absurd cc
 body_ended limit function awaits.Statement names all (p ∷ q ∷ ts) forms e b = absurd cc
 body_ended limit function awaits.Declarator names all ts forms e b = absurd cc
@@ -158,11 +158,11 @@ empty_text e (a_function i f o v c b body) = absurd cc
 pub header_same : (pieces rest behind : List Piece) (name other : Piece) → HeaderAt pieces name rest → HeaderAt pieces other behind
     → (name ≡ other) × (rest ≡ behind)
 header_same pieces rest behind name other h k =
-    let a = sign_along _ _ _ _ _ h.int k.int refl in
+    let a = terminal_along _ _ _ _ _ h.int k.int refl in
     let named : name ∷ h.behind_name ≡ other ∷ k.behind_name = sym h.named ∙ (a ∙ k.named) in
     let b : h.behind_name ≡ k.behind_name = cc in
-    let c = sign_along _ _ _ _ _ h.opening.opening k.opening.opening b in
-    let d = sign_along _ _ _ _ _ h.opening.void k.opening.void c in
-    let e = sign_along _ _ _ _ _ h.opening.closing k.opening.closing d in
-    let f = sign_along _ _ _ _ _ h.opening.beginning k.opening.beginning e in
+    let c = terminal_along _ _ _ _ _ h.opening.opening k.opening.opening b in
+    let d = terminal_along _ _ _ _ _ h.opening.void k.opening.void c in
+    let e = terminal_along _ _ _ _ _ h.opening.closing k.opening.closing d in
+    let f = terminal_along _ _ _ _ _ h.opening.beginning k.opening.beginning e in
     ((let g : name ≡ other = cc in g), f)

@@ -1,25 +1,25 @@
 -- At most one tree reads the pieces of a text.
 use Rattle.std.proofs.Common.{◌≡◌, ℕ, true, false, List, [], ◌∷◌, length, take, drop, Option, Some, refl, sym, ◌∙◌, ap, subst, arith}
 use Rattle.cx_lex.specs.declared.piece.Piece.{Piece}
-use Rattle.cx_first.specs.declared.signs.Sign.{Sign}
-use Rattle.cx_first.specs.declared.signs.Sign.TheVariants as sign_is
+use Rattle.cx_first.specs.declared.terminals.Terminal.{Terminal}
+use Rattle.cx_first.specs.declared.terminals.Terminal.TheVariants as terminal_is
 use Rattle.cx_first.specs.declared.statements.Awaits.{Awaits}
 use Rattle.cx_first.specs.declared.statements.Awaits.TheVariants as awaits
 use Rattle.cx_first.specs.Tree.{Tree, number, variable, negation, brackets, Form, declares, assigns, returns, Source}
 use Rattle.cx_first.specs.Names.{Names, index_of}
-use Rattle.cx_first.specs.Signs.{sign}
+use Rattle.cx_first.specs.Terminals.{terminal}
 use Rattle.cx_first.specs.Grammar.{Reads, a_number, a_variable, a_negation, in_brackets, a_chain, Chains, ends, goes_on, Expression, Initialiser, without, initialised, Declarator, declares_a, follows, Simple, assignment, a_return, Reading, a_declaration, a_declarator, a_statement, Body, closed, more, ReadsText}
-use Rattle.cx_first.specs.Descent.{Stops, SignAt, ends_expression, is_closed}
+use Rattle.cx_first.specs.Descent.{Stops, TerminalAt, ends_expression, is_closed}
 use Rattle.cx_first.proofs.DescentLaws.{closed_stops, bracket_parts, chains_stop, chain_parts, chains_parts}
 use Rattle.cx_first.proofs.ExpressionLaws.{expression_counted, parts_of}
 use Rattle.cx_first.proofs.StatementLaws.{equals_parts, bare_parts, declarator_parts, declaration_parts, follows_ends, semicolon_ends, assigned_parts, returned_parts, declaration_behind, statement_parts}
 use Rattle.cx_first.proofs.ReaderLaws.{closed_parts, body_ended, body_parts, text_parts, empty_text, header_same}
 
 -- one operand
-number_parts : {names : Names} {p : Piece} {n : ℕ} {ts rest : List Piece} {t : Tree} → sign p ≡ sign_is.Number n → Reads names 0 (p ∷ ts) t rest
+number_parts : {names : Names} {p : Piece} {n : ℕ} {ts rest : List Piece} {t : Tree} → terminal p ≡ terminal_is.Number n → Reads names 0 (p ∷ ts) t rest
     → (number n p.token.place ≡ t) × (ts ≡ rest)
 number_parts {p = p} {n = n} e (a_number {n = m} f) =
-    let k : sign_is.Number n ≡ sign_is.Number m = sym e ∙ f in
+    let k : terminal_is.Number n ≡ terminal_is.Number m = sym e ∙ f in
     let same : n ≡ m = cc in
     (ap (λ x. number x p.token.place) same, refl)
 number_parts e (a_variable f g) = absurd cc
@@ -27,7 +27,7 @@ number_parts e (a_negation f g) = absurd cc
 number_parts e (in_brackets f g h) = absurd cc
 number_parts e (a_chain f g h) = absurd (omega arith)
 
-variable_parts : {names : Names} {p : Piece} {i : ℕ} {ts rest : List Piece} {t : Tree} → sign p ≡ sign_is.Name → index_of names p.token.text ≡ Some i
+variable_parts : {names : Names} {p : Piece} {i : ℕ} {ts rest : List Piece} {t : Tree} → terminal p ≡ terminal_is.Name → index_of names p.token.text ≡ Some i
     → Reads names 0 (p ∷ ts) t rest → (variable i p.token.place ≡ t) × (ts ≡ rest)
 variable_parts e f (a_number g) = absurd cc
 variable_parts {p = p} {i = i} e f (a_variable {i = j} g h) =
@@ -43,7 +43,7 @@ record Negated (names : Names) (p : Piece) (ts : List Piece) (t : Tree) (rest : 
   pub is : t ≡ negation p.token.place inner
   pub reads : Reads names 0 ts inner rest
 
-negation_parts : {names : Names} {p : Piece} {ts rest : List Piece} {t : Tree} → sign p ≡ sign_is.Minus → Reads names 0 (p ∷ ts) t rest
+negation_parts : {names : Names} {p : Piece} {ts rest : List Piece} {t : Tree} → terminal p ≡ terminal_is.Minus → Reads names 0 (p ∷ ts) t rest
     → Negated names p ts t rest
 negation_parts e (a_number f) = absurd cc
 negation_parts e (a_variable f g) = absurd cc
@@ -84,39 +84,39 @@ mutual
       let right = reads_same r (chains_stop below e g s) b.reads b.stops in
       chains_same g s (rw (right.0, right.1) b.chains) k
 
-expression_same : {limit : ℕ} {names : Names} {ts rest behind : List Piece} {t other : Tree} {mark sign_too : Sign}
-    → Expression limit names ts t mark rest → ends_expression mark ≡ true → Expression limit names ts other sign_too behind → ends_expression sign_too ≡ true
-    → (t ≡ other) × (mark ≡ sign_too) × (rest ≡ behind)
-expression_same {limit} {names} {ts} {rest} {behind} {t} {other} {mark} {sign_too} a m b n =
+expression_same : {limit : ℕ} {names : Names} {ts rest behind : List Piece} {t other : Tree} {mark terminal_too : Terminal}
+    → Expression limit names ts t mark rest → ends_expression mark ≡ true → Expression limit names ts other terminal_too behind → ends_expression terminal_too ≡ true
+    → (t ≡ other) × (mark ≡ terminal_too) × (rest ≡ behind)
+expression_same {limit} {names} {ts} {rest} {behind} {t} {other} {mark} {terminal_too} a m b n =
     let count = length a.pieces in
     let counted = sym (expression_counted limit names ts t mark rest a m) in
     let x = parts_of limit names ts (take count ts) (drop count ts) t mark rest count a m counted refl refl in
-    let y = parts_of limit names ts (take count ts) (drop count ts) other sign_too behind count b n counted refl refl in
+    let y = parts_of limit names ts (take count ts) (drop count ts) other terminal_too behind count b n counted refl refl in
     let pieces : b.pieces ≡ a.pieces = sym y.0 ∙ x.0 in
     let lasts : a.last ∷ rest ≡ b.last ∷ behind = sym x.1 ∙ y.1 in
     let last : a.last ≡ b.last = cc in
     let trees = reads_same a.reads tt (subst (λ z. Reads names 2 z other []) pieces b.reads) tt in
-    (trees.0, sym a.marked ∙ (ap sign last ∙ b.marked), rests_same a.last b.last rest behind lasts)
+    (trees.0, sym a.marked ∙ (ap terminal last ∙ b.marked), rests_same a.last b.last rest behind lasts)
 
-initialiser_same : {limit : ℕ} {names : Names} {ts rest behind : List Piece} {value other : Option Tree} {mark sign_too : Sign}
-    → Initialiser limit names ts value mark rest → ends_expression mark ≡ true → Initialiser limit names ts other sign_too behind → ends_expression sign_too ≡ true
-    → (value ≡ other) × (mark ≡ sign_too) × (rest ≡ behind)
+initialiser_same : {limit : ℕ} {names : Names} {ts rest behind : List Piece} {value other : Option Tree} {mark terminal_too : Terminal}
+    → Initialiser limit names ts value mark rest → ends_expression mark ≡ true → Initialiser limit names ts other terminal_too behind → ends_expression terminal_too ≡ true
+    → (value ≡ other) × (mark ≡ terminal_too) × (rest ≡ behind)
 initialiser_same {mark = mark} (without e n) m b k = bare_parts mark e n b
 initialiser_same (initialised e x) m b k =
     let p = equals_parts e b in
     let same = expression_same x m p.expression k in
     (ap Some same.0 ∙ sym p.is, same.1, same.2)
 
-declarator_same : {limit : ℕ} {function : List ℕ} {names then others : Names} {ts rest behind : List Piece} {form other : Form} {mark sign_too : Sign}
+declarator_same : {limit : ℕ} {function : List ℕ} {names then others : Names} {ts rest behind : List Piece} {form other : Form} {mark terminal_too : Terminal}
     → Declarator limit function names ts form mark then rest → ends_expression mark ≡ true
-    → Declarator limit function names ts other sign_too others behind → ends_expression sign_too ≡ true
-    → (form ≡ other) × (mark ≡ sign_too) × (then ≡ others) × (rest ≡ behind)
+    → Declarator limit function names ts other terminal_too others behind → ends_expression terminal_too ≡ true
+    → (form ≡ other) × (mark ≡ terminal_too) × (then ≡ others) × (rest ≡ behind)
 declarator_same {names = names} (declares_a {p = p} n f i) m d k =
     let q = declarator_parts d in
     let same = initialiser_same i m q.initialiser k in
     (ap (λ v. declares (length names) p.token.place v) same.0 ∙ sym q.is, same.1, sym q.names_are, same.2)
 
-declaration_same : {limit : ℕ} {function : List ℕ} {names then others : Names} {ts rest behind : List Piece} {form other : Form} {mark : Sign} {next after : Awaits}
+declaration_same : {limit : ℕ} {function : List ℕ} {names then others : Names} {ts rest behind : List Piece} {form other : Form} {mark : Terminal} {next after : Awaits}
     → Declarator limit function names ts form mark then rest → follows mark ≡ Some next
     → Reading limit function names awaits.Declarator ts other after others behind
     → (form ≡ other) × (next ≡ after) × (then ≡ others) × (rest ≡ behind)
@@ -133,7 +133,7 @@ simple_same {limit} {names} {behind = behind} (assignment {p = p} {i = i} {t = t
     let indices : Some i ≡ Some q.index = sym e ∙ q.named in
     let index : i ≡ q.index = cc in
     let there : q.behind ≡ ts = rests_same q.equals.piece _ q.behind ts (sym q.equals.whole) in
-    let here : Expression limit names ts q.tree sign_is.Semicolon behind = subst (λ z. Expression limit names z q.tree sign_is.Semicolon behind) there q.expression in
+    let here : Expression limit names ts q.tree terminal_is.Semicolon behind = subst (λ z. Expression limit names z q.tree terminal_is.Semicolon behind) there q.expression in
     let same = expression_same x semicolon_ends here semicolon_ends in
     (ap (λ j. assigns j p.token.place t) index ∙ (ap (λ y. assigns q.index p.token.place y) same.0 ∙ sym q.is), same.2)
 simple_same (a_return {p = p} n x) s =
@@ -141,9 +141,9 @@ simple_same (a_return {p = p} n x) s =
     let same = expression_same x semicolon_ends q.expression semicolon_ends in
     (ap (λ t. returns p.token.place t) same.0 ∙ sym q.is, same.2)
 
-no_int : {limit : ℕ} {names : Names} {ts rest us : List Piece} {form : Form} → Simple limit names ts form rest → SignAt sign_is.Int ts us → ⊥
-no_int (assignment {p = p} n e f x) a = absurd (let k : a.piece ≡ p = (let h = a.whole in cc) in let l : sign p ≡ sign_is.Int = ap sign (sym k) ∙ a.signed in cc)
-no_int (a_return {p = p} n x) a = absurd (let k : a.piece ≡ p = (let h = a.whole in cc) in let l : sign p ≡ sign_is.Int = ap sign (sym k) ∙ a.signed in cc)
+no_int : {limit : ℕ} {names : Names} {ts rest us : List Piece} {form : Form} → Simple limit names ts form rest → TerminalAt terminal_is.Int ts us → ⊥
+no_int (assignment {p = p} n e f x) a = absurd (let k : a.piece ≡ p = (let h = a.whole in cc) in let l : terminal p ≡ terminal_is.Int = ap terminal (sym k) ∙ a.signed in cc)
+no_int (a_return {p = p} n x) a = absurd (let k : a.piece ≡ p = (let h = a.whole in cc) in let l : terminal p ≡ terminal_is.Int = ap terminal (sym k) ∙ a.signed in cc)
 
 reading_same : {limit : ℕ} {function : List ℕ} {here next after : Awaits} {names then others : Names} {ts rest behind : List Piece} {form other : Form}
     → Reading limit function names here ts form next then rest → Reading limit function names here ts other after others behind

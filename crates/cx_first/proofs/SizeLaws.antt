@@ -2,7 +2,7 @@
 use Rattle.std.proofs.Common.{ℕ, ◌+◌, ◌<◌, ◌≤◌, ◌^◌, List, length, All, Option, IfSome, ap, arith, length-append}
 use Rattle.std.proofs.lemmas.List.Elements.{All-cons}
 use Rattle.cx_lex.specs.declared.piece.Piece.{Piece}
-use Rattle.cx_first.specs.declared.signs.Sign.{Sign}
+use Rattle.cx_first.specs.declared.terminals.Terminal.{Terminal}
 use Rattle.cx_first.specs.declared.statements.Awaits.{Awaits}
 use Rattle.cx_first.specs.Tree.{Tree, Form, Source}
 use Rattle.cx_first.specs.Names.{Names}
@@ -25,20 +25,20 @@ mutual
   chains_size ends = omega arith
   chains_size (goes_on o l e r g) = omega (arith, reads_size r, chains_size g)
 
-expression_small : {limit : ℕ} {names : Names} {ts rest : List Piece} {t : Tree} {mark : Sign} → limit < 2 ^ 32
+expression_small : {limit : ℕ} {names : Names} {ts rest : List Piece} {t : Tree} {mark : Terminal} → limit < 2 ^ 32
     → Expression limit names ts t mark rest → IsSmall t
 expression_small l e = omega (arith, reads_size e.reads, e.short)
 
-expression_shorter : {limit : ℕ} {names : Names} {ts rest : List Piece} {t : Tree} {mark : Sign}
+expression_shorter : {limit : ℕ} {names : Names} {ts rest : List Piece} {t : Tree} {mark : Terminal}
     → Expression limit names ts t mark rest → length rest < length ts
 expression_shorter e = omega (arith, ap length e.whole, length-append {A = Piece})
 
-initialiser_small : {limit : ℕ} {names : Names} {ts rest : List Piece} {value : Option Tree} {mark : Sign} → limit < 2 ^ 32
+initialiser_small : {limit : ℕ} {names : Names} {ts rest : List Piece} {value : Option Tree} {mark : Terminal} → limit < 2 ^ 32
     → Initialiser limit names ts value mark rest → IfSome value IsSmall × (length rest < length ts)
 initialiser_small l (without e n) = (tt, omega arith)
 initialiser_small l (initialised e x) = (expression_small l x, omega (arith, expression_shorter x))
 
-declarator_small : {limit : ℕ} {function : List ℕ} {names then : Names} {ts rest : List Piece} {form : Form} {mark : Sign} → limit < 2 ^ 32
+declarator_small : {limit : ℕ} {function : List ℕ} {names then : Names} {ts rest : List Piece} {form : Form} {mark : Terminal} → limit < 2 ^ 32
     → Declarator limit function names ts form mark then rest → IsSmallForm form × (length rest < length ts)
 declarator_small l (declares_a n f i) = let h = initialiser_small l i in (h.0, omega (arith, h.1))
 

@@ -3,20 +3,20 @@ use Rattle.std.specs.Prelude.{◌≡◌, ◌≢◌, ℕ, ◌+◌, ◌≤◌, Lis
 use Rattle.cx_lex.specs.declared.piece.Piece.{Piece}
 use Rattle.cx_first.specs.declared.tree.Operator.{Operator}
 use Rattle.cx_first.specs.declared.tree.Operator.TheVariants.{Add, Subtract, Multiply, Divide}
-use Rattle.cx_first.specs.declared.signs.Sign.{Sign}
-use Rattle.cx_first.specs.declared.signs.Sign.TheVariants as sign_is
+use Rattle.cx_first.specs.declared.terminals.Terminal.{Terminal}
+use Rattle.cx_first.specs.declared.terminals.Terminal.TheVariants as terminal_is
 use Rattle.cx_first.specs.declared.statements.Awaits.{Awaits}
 use Rattle.cx_first.specs.declared.statements.Awaits.TheVariants as awaits
 use Rattle.cx_first.specs.Tree.{Tree, number, variable, negation, binary, brackets, Form, declares, assigns, returns, Source}
 use Rattle.cx_first.specs.Names.{Names, index_of}
-use Rattle.cx_first.specs.Signs.{sign}
+use Rattle.cx_first.specs.Terminals.{terminal}
 
--- the operator that a sign is between two operands
-unfoldable pub operator_of : Sign → Option Operator
-operator_of sign_is.Plus = Some Add
-operator_of sign_is.Minus = Some Subtract
-operator_of sign_is.Star = Some Multiply
-operator_of sign_is.Slash = Some Divide
+-- the operator that a terminal is between two operands
+unfoldable pub operator_of : Terminal → Option Operator
+operator_of terminal_is.Plus = Some Add
+operator_of terminal_is.Minus = Some Subtract
+operator_of terminal_is.Star = Some Multiply
+operator_of terminal_is.Slash = Some Divide
 operator_of other = None
 
 -- how loosely an operator binds: 1 for * and / (C11 6.5.5), 2 for + and - (C11 6.5.6)
@@ -30,14 +30,14 @@ level_of Subtract = 2
 -- tree, and the rest stands behind it. A name is one of those that are declared so far.
 mutual
   pub data Reads (names : Names) : ℕ → List Piece → Tree → List Piece → Type 0 where
-    a_number : {p : Piece} {n : ℕ} {rest : List Piece} → sign p ≡ sign_is.Number n
+    a_number : {p : Piece} {n : ℕ} {rest : List Piece} → terminal p ≡ terminal_is.Number n
         → Reads names 0 (p ∷ rest) (number n p.token.place) rest
-    a_variable : {p : Piece} {i : ℕ} {rest : List Piece} → sign p ≡ sign_is.Name → index_of names p.token.text ≡ Some i
+    a_variable : {p : Piece} {i : ℕ} {rest : List Piece} → terminal p ≡ terminal_is.Name → index_of names p.token.text ≡ Some i
         → Reads names 0 (p ∷ rest) (variable i p.token.place) rest
-    a_negation : {p : Piece} {ts rest : List Piece} {t : Tree} → sign p ≡ sign_is.Minus → Reads names 0 ts t rest
+    a_negation : {p : Piece} {ts rest : List Piece} {t : Tree} → terminal p ≡ terminal_is.Minus → Reads names 0 ts t rest
         → Reads names 0 (p ∷ ts) (negation p.token.place t) rest
-    in_brackets : {p q : Piece} {ts rest : List Piece} {t : Tree} → sign p ≡ sign_is.Open → Reads names 2 ts t (q ∷ rest)
-        → sign q ≡ sign_is.Close → Reads names 0 (p ∷ ts) (brackets t) rest
+    in_brackets : {p q : Piece} {ts rest : List Piece} {t : Tree} → terminal p ≡ terminal_is.Open → Reads names 2 ts t (q ∷ rest)
+        → terminal q ≡ terminal_is.Close → Reads names 0 (p ∷ ts) (brackets t) rest
     a_chain : {level below : ℕ} {ts mid rest : List Piece} {a t : Tree} → level ≡ below + 1 → Reads names below ts a mid
         → Chains names level a mid t rest → Reads names level ts t rest
 
@@ -45,15 +45,15 @@ mutual
   pub data Chains (names : Names) : ℕ → Tree → List Piece → Tree → List Piece → Type 0 where
     ends : {level : ℕ} {a : Tree} {rest : List Piece} → Chains names level a rest a rest
     goes_on : {level below : ℕ} {p : Piece} {op : Operator} {ts mid rest : List Piece} {a b t : Tree}
-        → operator_of (sign p) ≡ Some op → level_of op ≡ level → level ≡ below + 1 → Reads names below ts b mid
+        → operator_of (terminal p) ≡ Some op → level_of op ≡ level → level ≡ below + 1 → Reads names below ts b mid
         → Chains names level (binary op p.token.place a b) mid t rest → Chains names level a (p ∷ ts) t rest
 
 -- an expression of at most so many pieces, and a mark behind it
-pub record Expression (limit : ℕ) (names : Names) (ts : List Piece) (t : Tree) (mark : Sign) (rest : List Piece) : Type 0 where
+pub record Expression (limit : ℕ) (names : Names) (ts : List Piece) (t : Tree) (mark : Terminal) (rest : List Piece) : Type 0 where
   pub pieces : List Piece
   pub last : Piece
   pub whole : ts ≡ pieces ++ last ∷ rest
-  pub marked : sign last ≡ mark
+  pub marked : terminal last ≡ mark
   pub short : length pieces ≤ limit
   pub reads : Reads names 2 pieces t []
 
@@ -63,38 +63,38 @@ pub record IsNew (function : List ℕ) (names : Names) (name : List ℕ) : Type 
   pub other : name ≢ function
 
 -- an initialiser, where there is one, and a mark behind it
-pub data Initialiser (limit : ℕ) (names : Names) : List Piece → Option Tree → Sign → List Piece → Type 0 where
-  without : {q : Piece} {mark : Sign} {rest : List Piece} → sign q ≡ mark → mark ≢ sign_is.Equals
+pub data Initialiser (limit : ℕ) (names : Names) : List Piece → Option Tree → Terminal → List Piece → Type 0 where
+  without : {q : Piece} {mark : Terminal} {rest : List Piece} → terminal q ≡ mark → mark ≢ terminal_is.Equals
       → Initialiser limit names (q ∷ rest) None mark rest
-  initialised : {q : Piece} {mark : Sign} {t : Tree} {ts rest : List Piece} → sign q ≡ sign_is.Equals
+  initialised : {q : Piece} {mark : Terminal} {t : Tree} {ts rest : List Piece} → terminal q ≡ terminal_is.Equals
       → Expression limit names ts t mark rest → Initialiser limit names (q ∷ ts) (Some t) mark rest
 
 -- a declarator and the mark behind it: its own initialiser already sees its name (C11 6.2.1p7)
-pub data Declarator (limit : ℕ) (function : List ℕ) (names : Names) : List Piece → Form → Sign → Names → List Piece → Type 0 where
-  declares_a : {p : Piece} {mark : Sign} {value : Option Tree} {ts rest : List Piece} → sign p ≡ sign_is.Name
+pub data Declarator (limit : ℕ) (function : List ℕ) (names : Names) : List Piece → Form → Terminal → Names → List Piece → Type 0 where
+  declares_a : {p : Piece} {mark : Terminal} {value : Option Tree} {ts rest : List Piece} → terminal p ≡ terminal_is.Name
       → IsNew function names p.token.text → Initialiser limit (names ++ p.token.text ∷ []) ts value mark rest
       → Declarator limit function names (p ∷ ts) (declares (length names) p.token.place value) mark (names ++ p.token.text ∷ []) rest
 
 -- what may follow behind the mark at the end of a declarator (C11 6.7p1)
-unfoldable pub follows : Sign → Option Awaits
-follows sign_is.Comma = Some awaits.Declarator
-follows sign_is.Semicolon = Some awaits.Statement
+unfoldable pub follows : Terminal → Option Awaits
+follows terminal_is.Comma = Some awaits.Declarator
+follows terminal_is.Semicolon = Some awaits.Statement
 follows other = None
 
 -- an assignment or a return (C11 6.5.16, 6.8.3, 6.8.6.4)
 pub data Simple (limit : ℕ) (names : Names) : List Piece → Form → List Piece → Type 0 where
-  assignment : {p q : Piece} {i : ℕ} {t : Tree} {ts rest : List Piece} → sign p ≡ sign_is.Name
-      → index_of names p.token.text ≡ Some i → sign q ≡ sign_is.Equals → Expression limit names ts t sign_is.Semicolon rest
+  assignment : {p q : Piece} {i : ℕ} {t : Tree} {ts rest : List Piece} → terminal p ≡ terminal_is.Name
+      → index_of names p.token.text ≡ Some i → terminal q ≡ terminal_is.Equals → Expression limit names ts t terminal_is.Semicolon rest
       → Simple limit names (p ∷ q ∷ ts) (assigns i p.token.place t) rest
-  a_return : {p : Piece} {t : Tree} {ts rest : List Piece} → sign p ≡ sign_is.Return
-      → Expression limit names ts t sign_is.Semicolon rest → Simple limit names (p ∷ ts) (returns p.token.place t) rest
+  a_return : {p : Piece} {t : Tree} {ts rest : List Piece} → terminal p ≡ terminal_is.Return
+      → Expression limit names ts t terminal_is.Semicolon rest → Simple limit names (p ∷ ts) (returns p.token.place t) rest
 
 -- one statement or declarator: what is awaited, the names, the pieces, the form, and what, with which names, follows
 pub data Reading (limit : ℕ) (function : List ℕ) (names : Names) : Awaits → List Piece → Form → Awaits → Names → List Piece → Type 0 where
-  a_declaration : {then : Names} {p : Piece} {ts rest : List Piece} {form : Form} {mark : Sign} {next : Awaits}
-      → sign p ≡ sign_is.Int → Declarator limit function names ts form mark then rest → follows mark ≡ Some next
+  a_declaration : {then : Names} {p : Piece} {ts rest : List Piece} {form : Form} {mark : Terminal} {next : Awaits}
+      → terminal p ≡ terminal_is.Int → Declarator limit function names ts form mark then rest → follows mark ≡ Some next
       → Reading limit function names awaits.Statement (p ∷ ts) form next then rest
-  a_declarator : {then : Names} {ts rest : List Piece} {form : Form} {mark : Sign} {next : Awaits}
+  a_declarator : {then : Names} {ts rest : List Piece} {form : Form} {mark : Terminal} {next : Awaits}
       → Declarator limit function names ts form mark then rest → follows mark ≡ Some next
       → Reading limit function names awaits.Declarator ts form next then rest
   a_statement : {ts rest : List Piece} {form : Form} → Simple limit names ts form rest
@@ -102,7 +102,7 @@ pub data Reading (limit : ℕ) (function : List ℕ) (names : Names) : Awaits �
 
 -- the rest of a function's body (C11 6.8.2), up to its last piece
 pub data Body (limit : ℕ) (function : List ℕ) : Awaits → Names → List Piece → List Form → Names → Type 0 where
-  closed : {names : Names} {p : Piece} → sign p ≡ sign_is.End
+  closed : {names : Names} {p : Piece} → terminal p ≡ terminal_is.End
       → Body limit function awaits.Statement names (p ∷ []) [] names
   more : {here next : Awaits} {names then all : Names} {ts rest : List Piece} {form : Form} {forms : List Form}
       → Reading limit function names here ts form next then rest → Body limit function next then rest forms all
@@ -112,8 +112,8 @@ pub data Body (limit : ℕ) (function : List ℕ) : Awaits → Names → List Pi
 pub data ReadsText (limit : ℕ) : List Piece → Source → Type 0 where
   nothing : ReadsText limit [] (record { names = []; statements = [] })
   a_function : {int name opening void closing beginning : Piece} {rest : List Piece} {forms : List Form} {names : Names}
-      → sign int ≡ sign_is.Int → sign name ≡ sign_is.Name → sign opening ≡ sign_is.Open → sign void ≡ sign_is.Void
-      → sign closing ≡ sign_is.Close → sign beginning ≡ sign_is.Begin
+      → terminal int ≡ terminal_is.Int → terminal name ≡ terminal_is.Name → terminal opening ≡ terminal_is.Open → terminal void ≡ terminal_is.Void
+      → terminal closing ≡ terminal_is.Close → terminal beginning ≡ terminal_is.Begin
       → Body limit name.token.text awaits.Statement [] rest forms names
       → ReadsText limit (int ∷ name ∷ opening ∷ void ∷ closing ∷ beginning ∷ rest) (record { names = names; statements = forms })
 

@@ -3,7 +3,7 @@ pub mod Evaluation
 pub mod Counting
 pub mod Runs
 pub mod Steps
-pub mod Signs
+pub mod Terminals
 pub mod Names
 pub mod Grammar
 pub mod Descent

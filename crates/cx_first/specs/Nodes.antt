@@ -28,11 +28,11 @@ place_of (negation at operand) = at
 place_of (binary operator at left right) = at
 place_of (brackets inner) = place_of inner
 
-abbrev pub sign_of : Operator → List ℕ
-sign_of Add = codes "+"
-sign_of Subtract = codes "-"
-sign_of Multiply = codes "*"
-sign_of Divide = codes "/"
+abbrev pub symbol_of : Operator → List ℕ
+symbol_of Add = codes "+"
+symbol_of Subtract = codes "-"
+symbol_of Multiply = codes "*"
+symbol_of Divide = codes "/"
 
 -- the name of a variable, which is empty where the names have none
 abbrev pub name_of : Names → ℕ → List ℕ
@@ -43,7 +43,7 @@ unfoldable pub text_of : Names → Tree → List ℕ
 text_of names (number value at) = decimal value
 text_of names (variable index at) = name_of names index
 text_of names (negation at operand) = codes "-" ++ text_of names operand
-text_of names (binary operator at left right) = text_of names left ++ (sign_of operator ++ text_of names right)
+text_of names (binary operator at left right) = text_of names left ++ (symbol_of operator ++ text_of names right)
 text_of names (brackets inner) = codes "(" ++ (text_of names inner ++ codes ")")
 
 -- the node of this number, counted from 0, in the expression of a statement

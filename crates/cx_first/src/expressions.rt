@@ -4,27 +4,27 @@ ghost use Rattle.std.specs.Prelude.{◌≡◌, ◌≤◌, ◌<◌, ℕ, List as 
 ghost use Rattle.cx_lex.specs.declared.piece.Piece.{Piece};
 ghost use Rattle.cx_first.specs.Tree as tree;
 ghost use Rattle.cx_first.specs.Grammar.{Reads, Chains, operator_of, level_of};
-ghost use Rattle.cx_first.specs.Signs.{sign};
-ghost use Rattle.cx_first.specs.Descent.{Stops, OperatorAt, NoOperator, SignAt, NoSign};
+ghost use Rattle.cx_first.specs.Terminals.{terminal};
+ghost use Rattle.cx_first.specs.Descent.{Stops, OperatorAt, NoOperator, TerminalAt, NoTerminal};
 
 use crate::names::Names;
-use crate::signs::{Sign, behind_sign, first, sign_of};
+use crate::terminals::{Terminal, after_terminal, first, terminal_of};
 use crate::tree::{Expr, Operator};
 use cx_base::NoMemory;
 use cx_lex::Piece;
 use sqlite_items::Boxed;
 use std::alloc::Global;
 
-/// The operator that a sign is between two operands.
+/// The operator that a terminal is between two operands.
 #[tactic(auto, unfolding(crate::specs::Grammar::operator_of))]
-fn operator_of(sign: Sign) -> Option<Operator>
-    ensures { result ≡ operator_of sign }
+fn operator_of(terminal: Terminal) -> Option<Operator>
+    ensures { result ≡ operator_of terminal }
 {
-    match sign {
-        Sign::Plus => Some(Operator::Add),
-        Sign::Minus => Some(Operator::Subtract),
-        Sign::Star => Some(Operator::Multiply),
-        Sign::Slash => Some(Operator::Divide),
+    match terminal {
+        Terminal::Plus => Some(Operator::Add),
+        Terminal::Minus => Some(Operator::Subtract),
+        Terminal::Star => Some(Operator::Multiply),
+        Terminal::Slash => Some(Operator::Divide),
         _ => None,
     }
 }
@@ -46,7 +46,7 @@ fn operator_at<'a>(level: u8, pieces: &'a [Piece]) -> Option<(Operator, &'a Piec
     ensures some { IfSome result (λ x. OperatorAt level pieces.now x.0 x.1.now x.2.now) }
 {
     let (piece, rest) = first(pieces)?;
-    let operator = operator_of(sign_of(piece))?;
+    let operator = operator_of(terminal_of(piece))?;
     if level_of(operator) == level {
         Some((operator, piece, rest))
     } else {
@@ -58,7 +58,7 @@ fn operator_at<'a>(level: u8, pieces: &'a [Piece]) -> Option<(Operator, &'a Piec
 #[tactic(auto, using(crate::proofs::TreeLaws::trees, crate::proofs::DescentLaws::reads_variable))]
 fn variable<'a>(names: &Names, piece: &'a Piece, rest: &'a [Piece]) -> Option<(Expr, &'a [Piece])>
     requires few { length names.now ≤ 4294967296 }
-    requires name { sign piece.now ≡ Sign.Name }
+    requires name { terminal piece.now ≡ Terminal.Name }
     ensures found { IfSome result (λ x. Reads names.now 0 (piece.now ∷ rest.now) (tree.tree_of x.0) x.1.now) }
     ensures only { (t : tree.Tree) (behind : Items Piece) → Reads names.now 0 (piece.now ∷ rest.now) t behind → IsSomeAnd result (λ x. (tree.tree_of x.0 ≡ t) × (x.1.now ≡ behind)) }
     ensures shorter { IfSome result (λ x. length x.1.now ≤ length rest.now) }
@@ -84,14 +84,14 @@ fn operand<'a>(
     let Some((piece, rest)) = first(pieces) else {
         return Ok(None);
     };
-    match sign_of(piece) {
-        Sign::Number(value) => {
+    match terminal_of(piece) {
+        Terminal::Number(value) => {
             let at = piece.token.place;
             Ok(Some((Expr::Number { value, at }, rest)))
         }
-        Sign::Name => Ok(variable(names, piece, rest)),
-        Sign::Minus => negation(alloc, names, piece, rest),
-        Sign::Open => bracketed(alloc, names, piece, rest),
+        Terminal::Name => Ok(variable(names, piece, rest)),
+        Terminal::Minus => negation(alloc, names, piece, rest),
+        Terminal::Open => bracketed(alloc, names, piece, rest),
         _ => Ok(None),
     }
 }
@@ -106,7 +106,7 @@ fn negation<'a>(
     pieces: &'a [Piece],
 ) -> Result<Option<(Expr, &'a [Piece])>, NoMemory>
     requires few { length names.now ≤ 4294967296 }
-    requires minus { sign piece.now ≡ Sign.Minus }
+    requires minus { terminal piece.now ≡ Terminal.Minus }
     ensures found { IfOk result (λ f. IfSome f (λ x. Reads names.now 0 (piece.now ∷ pieces.now) (tree.tree_of x.0) x.1.now)) }
     ensures only { (t : tree.Tree) (rest : Items Piece) → Reads names.now 0 (piece.now ∷ pieces.now) t rest → IfOk result (λ f. IsSomeAnd f (λ x. (tree.tree_of x.0 ≡ t) × (x.1.now ≡ rest))) }
     ensures shorter { IfOk result (λ f. IfSome f (λ x. length x.1.now < length pieces.now)) }
@@ -131,14 +131,14 @@ fn bracketed<'a>(
     pieces: &'a [Piece],
 ) -> Result<Option<(Expr, &'a [Piece])>, NoMemory>
     requires few { length names.now ≤ 4294967296 }
-    requires open { sign piece.now ≡ Sign.Open }
+    requires open { terminal piece.now ≡ Terminal.Open }
     ensures found { IfOk result (λ f. IfSome f (λ x. Reads names.now 0 (piece.now ∷ pieces.now) (tree.tree_of x.0) x.1.now)) }
     ensures only { (t : tree.Tree) (rest : Items Piece) → Reads names.now 0 (piece.now ∷ pieces.now) t rest → IfOk result (λ f. IsSomeAnd f (λ x. (tree.tree_of x.0 ≡ t) × (x.1.now ≡ rest))) }
     ensures shorter { IfOk result (λ f. IfSome f (λ x. length x.1.now < length pieces.now)) }
 {
     match chain(alloc, names, 2, pieces)? {
         None => Ok(None),
-        Some((inner, behind)) => match behind_sign(Sign::Close, behind) {
+        Some((inner, behind)) => match after_terminal(Terminal::Close, behind) {
             None => Ok(None),
             Some(rest) => {
                 let inner = Boxed::new(alloc, inner)?;

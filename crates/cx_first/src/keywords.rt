@@ -1,6 +1,6 @@
 //! The keywords of C (C11 6.4.1).
 ghost use Rattle.std.specs.Prelude.{◌≡◌};
-ghost use Rattle.cx_first.specs.Signs as meaning;
+ghost use Rattle.cx_first.specs.Terminals as meaning;
 
 const KEYWORDS: [&[u8]; 44] = [
     b"auto",
@@ -69,7 +69,7 @@ fn is_one_of(word: &[u8], table: &[&[u8]]) -> bool
 }
 
 /// Whether a word is a keyword.
-#[tactic(auto, unfolding(crate::specs::Signs::is_keyword))]
+#[tactic(auto, unfolding(crate::specs::Terminals::is_keyword))]
 pub(crate) fn is_keyword(word: &[u8]) -> bool
     ensures { result ≡ meaning.is_keyword word.now }
 {

@@ -7,8 +7,8 @@ pub use laws::{one_longest_run, one_tree, runs_go_on, stuck_is_never_passed};
 pub use nodes::{Node, node_at, stuck_at_a_node};
 pub use reader::read;
 pub use runs::{RunEnd, run};
-pub use signs::Sign;
 pub use statements::Awaits;
+pub use terminals::Terminal;
 pub use tree::{Expr, FirstText, Operator, Statement};
 
 mod evaluation;
@@ -19,8 +19,8 @@ mod names;
 mod nodes;
 mod reader;
 mod runs;
-mod signs;
 mod statements;
+mod terminals;
 #[cfg(test)]
 mod tests;
 mod tree;

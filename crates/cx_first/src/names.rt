@@ -1,33 +1,34 @@
 //! The names that a text has declared so far, in order, each of them once.
-ghost use Rattle.std.specs.Prelude.{◌≡◌, [], ◌∷◌, ◌++◌, IfOk, None, IsTrue, IsFalse, OnOk, ◌≤◌, length};
+ghost use Rattle.std.specs.Prelude.{◌≡◌, [], ◌∷◌, ◌++◌, IfOk, None, OnOk, ◌≤◌, length};
 ghost use Rattle.cx_first.specs.Names.{index_of};
 
 use cx_base::{List, NoMemory, Text};
-use indexmap::IndexSet;
+use cx_table::{NameKey, NameTable};
 use std::alloc::Global;
 use std::marker::Model;
 
 /// Names with their indices, which contracts see as the list of their bytes.
 #[derive(Drop)]
 pub(crate) struct Names {
-    names: IndexSet<Vec<u8>>,
+    names: NameTable<()>,
 }
 
 impl Model for Names {
-    ghost use Rattle.std.specs.Prelude.{List, ℕ, map};
+    ghost use Rattle.std.specs.Prelude.{List, ℕ};
+    ghost use Rattle.cx_table.specs.NameTable.{names_of};
 
     ghost Value = { List (List ℕ) };
 
-    ghost view = { λ n. map (λ name. name.items) n.names.keys };
+    ghost view = { λ n. names_of n.names };
 }
 
 impl Names {
-    /// No names.
-    pub(crate) fn new(alloc: Global) -> Names
+    /// No names. Those to come are hashed with this key.
+    pub(crate) fn new(alloc: Global, key: NameKey) -> Names
         ensures { result ≡ [] }
     {
         Names {
-            names: IndexSet::new(alloc),
+            names: NameTable::new(alloc, key),
         }
     }
 
@@ -36,7 +37,7 @@ impl Names {
         requires { length self.now ≤ 4294967296 }
         ensures { result ≡ index_of self.now name.now }
     {
-        match self.names.get_index_of(name) {
+        match self.names.index_of(name) {
             Some(index) => Some(index as u32),
             None => None,
         }
@@ -54,8 +55,8 @@ impl Names {
         requires { index_of self.old name.now ≡ None }
         ensures { OnOk result (self.new ≡ self.old ++ name.now ∷ []) }
     {
-        let name = Vec::from_slice(alloc, name)?;
-        self.names.insert(name)?;
+        let name = Text::from_slice(alloc, name)?;
+        self.names.insert(name, ())?;
         Ok(())
     }
 
@@ -64,8 +65,10 @@ impl Names {
         ensures { IfOk result (λ l. l ≡ self.now) }
     {
         let mut list = List::new(alloc);
-        for name in self.names.as_slice() {
-            list.push(Text::from_slice(alloc, name.as_slice())?)?;
+        for index in 0..self.names.len() {
+            if let Some((name, _)) = self.names.entry_at(index) {
+                list.push(Text::from_slice(alloc, name)?)?;
+            }
         }
         Ok(list)
     }

@@ -82,9 +82,9 @@ fn push_name(text: &mut Text, names: &[Text], variable: u32) -> Result<(), NoMem
     }
 }
 
-/// Adds the sign of an operator.
-fn push_sign(text: &mut Text, operator: Operator) -> Result<(), NoMemory>
-    ensures { OnOk result (text.new ≡ text.old ++ meaning.sign_of operator) }
+/// Adds the symbol of an operator.
+fn push_symbol(text: &mut Text, operator: Operator) -> Result<(), NoMemory>
+    ensures { OnOk result (text.new ≡ text.old ++ meaning.symbol_of operator) }
 {
     match operator {
         Operator::Add => text.push_all(b"+"),
@@ -113,7 +113,7 @@ fn push_text(text: &mut Text, names: &[Text], expr: &Expr) -> Result<(), NoMemor
             ..
         } => {
             push_text(text, names, left.get())?;
-            push_sign(text, *operator)?;
+            push_symbol(text, *operator)?;
             push_text(text, names, right.get())
         }
         Expr::Brackets { inner } => {

@@ -8,11 +8,13 @@ ghost use Rattle.cx_first.specs.Descent.{is_closed, HeaderAt, NoHeader, OpeningA
 ghost use Rattle.cx_first.specs.Runs.{IsNumbered};
 
 use crate::names::Names;
-use crate::signs::{Sign, behind_sign, first, sign_of};
 use crate::statements::{Awaits, statement};
+use crate::terminals::{Terminal, after_terminal, first, terminal_of};
 use crate::tree::{FirstText, Statement};
 use cx_base::{List, NoMemory};
 use cx_lex::Piece;
+use cx_table::NameKey;
+use sha2::{Digest, Sha256};
 use std::alloc::Global;
 
 /// The most pieces that an expression may have.
@@ -24,7 +26,7 @@ fn is_closed(awaits: Awaits, pieces: &[Piece]) -> bool
     ensures { result ≡ is_closed awaits pieces.now }
 {
     match (awaits, pieces) {
-        (Awaits::Statement, [piece]) => matches!(sign_of(piece), Sign::End),
+        (Awaits::Statement, [piece]) => matches!(terminal_of(piece), Terminal::End),
         _ => false,
     }
 }
@@ -63,16 +65,16 @@ fn opening(pieces: &[Piece]) -> Option<&[Piece]>
     ensures none { IfNone result (NoOpening pieces.now) }
     ensures some { IfSome result (λ rest. OpeningAt pieces.now rest.now) }
 {
-    let Some(rest) = behind_sign(Sign::Open, pieces) else {
+    let Some(rest) = after_terminal(Terminal::Open, pieces) else {
         return None;
     };
-    let Some(rest) = behind_sign(Sign::Void, rest) else {
+    let Some(rest) = after_terminal(Terminal::Void, rest) else {
         return None;
     };
-    let Some(rest) = behind_sign(Sign::Close, rest) else {
+    let Some(rest) = after_terminal(Terminal::Close, rest) else {
         return None;
     };
-    behind_sign(Sign::Begin, rest)
+    after_terminal(Terminal::Begin, rest)
 }
 
 /// The name of a function, and the pieces of its body.
@@ -80,19 +82,30 @@ fn header(pieces: &[Piece]) -> Option<(&Piece, &[Piece])>
     ensures none { IfNone result (NoHeader pieces.now) }
     ensures some { IfSome result (λ x. HeaderAt pieces.now x.0.now x.1.now) }
 {
-    let Some(named) = behind_sign(Sign::Int, pieces) else {
+    let Some(named) = after_terminal(Terminal::Int, pieces) else {
         return None;
     };
     let Some((name, _)) = first(named) else {
         return None;
     };
-    let Some(rest) = behind_sign(Sign::Name, named) else {
+    let Some(rest) = after_terminal(Terminal::Name, named) else {
         return None;
     };
     match opening(rest) {
         None => None,
         Some(body) => Some((name, body)),
     }
+}
+
+/// The key that the names of these pieces are hashed with, from all their texts.
+fn key_of(pieces: &[Piece]) -> NameKey {
+    let mut hasher = Sha256::new();
+    for piece in pieces {
+        hasher.update(piece.token.text.as_slice());
+        hasher.update(b"\n");
+    }
+    let digest: [u8; 32] = hasher.finalize();
+    NameKey::of(digest.as_slice())
 }
 
 /// A function's text, behind its head.
@@ -106,7 +119,7 @@ fn function(
     ensures found { IfOk result (λ f. IfSome f (λ x. Body limit name.now Awaits.Statement [] pieces.now (map form_of x.statements) x.names)) }
     ensures only { (forms : Items Form) (all : NamesSoFar) → Body limit name.now Awaits.Statement [] pieces.now forms all → IfOk result (λ f. IsSomeAnd f (λ x. (map form_of x.statements ≡ forms) × (x.names ≡ all))) }
 {
-    let mut names = Names::new(alloc);
+    let mut names = Names::new(alloc, key_of(pieces));
     match body(alloc, name, limit, &mut names, pieces)? {
         None => Ok(None),
         Some(statements) => {

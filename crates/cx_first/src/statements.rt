@@ -4,13 +4,13 @@ ghost use Rattle.cx_lex.specs.declared.piece.Piece.{Piece};
 ghost use Rattle.cx_first.specs.Tree.{Tree, Form, tree_of, form_of};
 ghost use Rattle.cx_first.specs.Names.{Names as NamesSoFar, index_of};
 ghost use Rattle.cx_first.specs.Grammar.{Expression, Initialiser, Declarator, Simple, Reading, IsNew, follows};
-ghost use Rattle.cx_first.specs.Signs.{sign};
+ghost use Rattle.cx_first.specs.Terminals.{terminal};
 ghost use Rattle.cx_first.specs.Descent.{ends_expression, ends_after, NewNameAt, NoNewName};
 
 use crate::expressions::chain;
 use crate::keywords::equals;
 use crate::names::Names;
-use crate::signs::{Sign, behind_sign, first, sign_of};
+use crate::terminals::{Terminal, after_terminal, first, terminal_of};
 use crate::tree::{Expr, Statement};
 use cx_base::NoMemory;
 use cx_lex::Piece;
@@ -27,11 +27,11 @@ pub enum Awaits {
 
 /// Whether a mark stands behind expressions, and never in them.
 #[tactic(auto, unfolding(crate::specs::Descent::ends_expression))]
-fn ends_expression(sign: Sign) -> bool
-    ensures { result ≡ ends_expression sign }
+fn ends_expression(terminal: Terminal) -> bool
+    ensures { result ≡ ends_expression terminal }
 {
-    match sign {
-        Sign::Comma | Sign::Semicolon => true,
+    match terminal {
+        Terminal::Comma | Terminal::Semicolon => true,
         _ => false,
     }
 }
@@ -44,7 +44,7 @@ fn length_of(limit: usize, pieces: &[Piece]) -> Option<usize>
     let mut count = 0;
     let mut rest = pieces;
     while let Some((piece, behind)) = first(rest) {
-        if ends_expression(sign_of(piece)) {
+        if ends_expression(terminal_of(piece)) {
             return Some(count);
         }
         if count == limit {
@@ -62,10 +62,10 @@ fn expression<'a>(
     names: &Names,
     limit: usize,
     pieces: &'a [Piece],
-) -> Result<Option<(Expr, Sign, &'a [Piece])>, NoMemory>
+) -> Result<Option<(Expr, Terminal, &'a [Piece])>, NoMemory>
     requires { length names.now ≤ 4294967296 }
     ensures found { IfOk result (λ f. IfSome f (λ x. Expression limit names.now pieces.now (tree_of x.0) x.1 x.2.now)) }
-    ensures only { (t : Tree) (mark : Sign) (rest : Items Piece) → Expression limit names.now pieces.now t mark rest → IsTrue (ends_expression mark) → IfOk result (λ f. IsSomeAnd f (λ x. (tree_of x.0 ≡ t) × (x.1 ≡ mark) × (x.2.now ≡ rest))) }
+    ensures only { (t : Tree) (mark : Terminal) (rest : Items Piece) → Expression limit names.now pieces.now t mark rest → IsTrue (ends_expression mark) → IfOk result (λ f. IsSomeAnd f (λ x. (tree_of x.0 ≡ t) × (x.1 ≡ mark) × (x.2.now ≡ rest))) }
     ensures shorter { IfOk result (λ f. IfSome f (λ x. length x.2.now < length pieces.now)) }
 {
     let Some(count) = length_of(limit, pieces) else {
@@ -79,7 +79,7 @@ fn expression<'a>(
         None => Ok(None),
         Some((value, left)) => {
             if left.is_empty() {
-                Ok(Some((value, sign_of(last), rest)))
+                Ok(Some((value, terminal_of(last), rest)))
             } else {
                 Ok(None)
             }
@@ -89,12 +89,12 @@ fn expression<'a>(
 
 /// What may follow behind the mark at the end of a declarator.
 #[tactic(auto, unfolding(crate::specs::Grammar::follows))]
-fn follows(mark: Sign) -> Option<Awaits>
+fn follows(mark: Terminal) -> Option<Awaits>
     ensures { result ≡ follows mark }
 {
     match mark {
-        Sign::Comma => Some(Awaits::Declarator),
-        Sign::Semicolon => Some(Awaits::Statement),
+        Terminal::Comma => Some(Awaits::Declarator),
+        Terminal::Semicolon => Some(Awaits::Statement),
         _ => None,
     }
 }
@@ -111,8 +111,8 @@ fn new_name<'a>(
 {
     let (piece, rest) = first(pieces)?;
     let text = piece.token.text.as_slice();
-    match sign_of(piece) {
-        Sign::Name => {
+    match terminal_of(piece) {
+        Terminal::Name => {
             if equals(text, function) {
                 return None;
             }
@@ -131,17 +131,17 @@ fn initialiser<'a>(
     names: &Names,
     limit: usize,
     pieces: &'a [Piece],
-) -> Result<Option<(Option<Expr>, Sign, &'a [Piece])>, NoMemory>
+) -> Result<Option<(Option<Expr>, Terminal, &'a [Piece])>, NoMemory>
     requires { length names.now ≤ 4294967296 }
     ensures found { IfOk result (λ f. IfSome f (λ x. Initialiser limit names.now pieces.now (option_map tree_of x.0) x.1 x.2.now)) }
-    ensures only { (t : Maybe Tree) (mark : Sign) (rest : Items Piece) → Initialiser limit names.now pieces.now t mark rest → IsTrue (ends_expression mark) → IfOk result (λ f. IsSomeAnd f (λ x. (option_map tree_of x.0 ≡ t) × (x.1 ≡ mark) × (x.2.now ≡ rest))) }
+    ensures only { (t : Maybe Tree) (mark : Terminal) (rest : Items Piece) → Initialiser limit names.now pieces.now t mark rest → IsTrue (ends_expression mark) → IfOk result (λ f. IsSomeAnd f (λ x. (option_map tree_of x.0 ≡ t) × (x.1 ≡ mark) × (x.2.now ≡ rest))) }
     ensures shorter { IfOk result (λ f. IfSome f (λ x. length x.2.now < length pieces.now)) }
 {
     let Some((piece, rest)) = first(pieces) else {
         return Ok(None);
     };
-    match sign_of(piece) {
-        Sign::Equals => match expression(alloc, names, limit, rest)? {
+    match terminal_of(piece) {
+        Terminal::Equals => match expression(alloc, names, limit, rest)? {
             None => Ok(None),
             Some((value, mark, rest)) => Ok(Some((Some(value), mark, rest))),
         },
@@ -156,10 +156,10 @@ fn declarator<'a>(
     limit: usize,
     names: &mut Names,
     pieces: &'a [Piece],
-) -> Result<Option<(Statement, Sign, &'a [Piece])>, NoMemory>
+) -> Result<Option<(Statement, Terminal, &'a [Piece])>, NoMemory>
     requires { length names.old < 4294967296 }
     ensures found { IfOk result (λ f. IfSome f (λ x. Declarator limit function.now names.old pieces.now (form_of x.0) x.1 names.new x.2.now)) }
-    ensures only { (form : Form) (mark : Sign) (then : NamesSoFar) (rest : Items Piece) → Declarator limit function.now names.old pieces.now form mark then rest → IsTrue (ends_expression mark) → IfOk result (λ f. IsSomeAnd f (λ x. (form_of x.0 ≡ form) × (x.1 ≡ mark) × (names.new ≡ then) × (x.2.now ≡ rest))) }
+    ensures only { (form : Form) (mark : Terminal) (then : NamesSoFar) (rest : Items Piece) → Declarator limit function.now names.old pieces.now form mark then rest → IsTrue (ends_expression mark) → IfOk result (λ f. IsSomeAnd f (λ x. (form_of x.0 ≡ form) × (x.1 ≡ mark) × (names.new ≡ then) × (x.2.now ≡ rest))) }
     ensures shorter { IfOk result (λ f. IfSome f (λ x. length x.2.now < length pieces.now)) }
     ensures grown { IfOk result (λ _. length names.new ≤ length names.old + 1) }
 {
@@ -216,14 +216,14 @@ fn closed_expression<'a>(
     pieces: &'a [Piece],
 ) -> Result<Option<(Expr, &'a [Piece])>, NoMemory>
     requires { length names.now ≤ 4294967296 }
-    ensures found { IfOk result (λ f. IfSome f (λ x. Expression limit names.now pieces.now (tree_of x.0) Sign.Semicolon x.1.now)) }
-    ensures only { (t : Tree) (rest : Items Piece) → Expression limit names.now pieces.now t Sign.Semicolon rest → IfOk result (λ f. IsSomeAnd f (λ x. (tree_of x.0 ≡ t) × (x.1.now ≡ rest))) }
+    ensures found { IfOk result (λ f. IfSome f (λ x. Expression limit names.now pieces.now (tree_of x.0) Terminal.Semicolon x.1.now)) }
+    ensures only { (t : Tree) (rest : Items Piece) → Expression limit names.now pieces.now t Terminal.Semicolon rest → IfOk result (λ f. IsSomeAnd f (λ x. (tree_of x.0 ≡ t) × (x.1.now ≡ rest))) }
     ensures shorter { IfOk result (λ f. IfSome f (λ x. length x.1.now < length pieces.now)) }
 {
     match expression(alloc, names, limit, pieces)? {
         None => Ok(None),
         Some((value, mark, rest)) => match mark {
-            Sign::Semicolon => Ok(Some((value, rest))),
+            Terminal::Semicolon => Ok(Some((value, rest))),
             _ => Ok(None),
         },
     }
@@ -238,7 +238,7 @@ fn assignment<'a>(
     pieces: &'a [Piece],
 ) -> Result<Option<(Statement, &'a [Piece])>, NoMemory>
     requires few { length names.now ≤ 4294967296 }
-    requires name { sign piece.now ≡ Sign.Name }
+    requires name { terminal piece.now ≡ Terminal.Name }
     ensures found { IfOk result (λ f. IfSome f (λ x. Simple limit names.now (piece.now ∷ pieces.now) (form_of x.0) x.1.now)) }
     ensures only { (form : Form) (rest : Items Piece) → Simple limit names.now (piece.now ∷ pieces.now) form rest → IfOk result (λ f. IsSomeAnd f (λ x. (form_of x.0 ≡ form) × (x.1.now ≡ rest))) }
     ensures shorter { IfOk result (λ f. IfSome f (λ x. length x.1.now < length pieces.now)) }
@@ -246,7 +246,7 @@ fn assignment<'a>(
     let Some(variable) = names.find(piece.token.text.as_slice()) else {
         return Ok(None);
     };
-    let Some(rest) = behind_sign(Sign::Equals, pieces) else {
+    let Some(rest) = after_terminal(Terminal::Equals, pieces) else {
         return Ok(None);
     };
     match closed_expression(alloc, limit, names, rest)? {
@@ -274,7 +274,7 @@ fn returned<'a>(
     pieces: &'a [Piece],
 ) -> Result<Option<(Statement, &'a [Piece])>, NoMemory>
     requires few { length names.now ≤ 4294967296 }
-    requires word { sign piece.now ≡ Sign.Return }
+    requires word { terminal piece.now ≡ Terminal.Return }
     ensures found { IfOk result (λ f. IfSome f (λ x. Simple limit names.now (piece.now ∷ pieces.now) (form_of x.0) x.1.now)) }
     ensures only { (form : Form) (rest : Items Piece) → Simple limit names.now (piece.now ∷ pieces.now) form rest → IfOk result (λ f. IsSomeAnd f (λ x. (form_of x.0 ≡ form) × (x.1.now ≡ rest))) }
     ensures shorter { IfOk result (λ f. IfSome f (λ x. length x.1.now < length pieces.now)) }
@@ -303,9 +303,9 @@ fn simple<'a>(
     let Some((piece, rest)) = first(pieces) else {
         return Ok(None);
     };
-    match sign_of(piece) {
-        Sign::Name => assignment(alloc, limit, names, piece, rest),
-        Sign::Return => returned(alloc, limit, names, piece, rest),
+    match terminal_of(piece) {
+        Terminal::Name => assignment(alloc, limit, names, piece, rest),
+        Terminal::Return => returned(alloc, limit, names, piece, rest),
         _ => Ok(None),
     }
 }
@@ -327,7 +327,7 @@ pub(crate) fn statement<'a>(
 {
     match awaits {
         Awaits::Declarator => declaration(alloc, function, limit, names, pieces),
-        Awaits::Statement => match behind_sign(Sign::Int, pieces) {
+        Awaits::Statement => match after_terminal(Terminal::Int, pieces) {
             Some(rest) => declaration(alloc, function, limit, names, rest),
             None => match simple(alloc, limit, names, pieces)? {
                 None => Ok(None),

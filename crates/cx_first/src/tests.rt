@@ -201,7 +201,7 @@ const LONG: [(&str, &str, usize, &str, &str, &str, &str); 11] = [
     ),
 ];
 
-fn sign_of(operator: Operator) -> &'static str {
+fn terminal_of(operator: Operator) -> &'static str {
     match operator {
         Operator::Add => "+",
         Operator::Subtract => "-",
@@ -226,7 +226,7 @@ fn show(alloc: Global, expr: &Expr) -> Result<String, AllocError> {
         } => {
             let left = show(alloc, left.get())?;
             let right = show(alloc, right.get())?;
-            format!(in alloc; "({left} {} {right})", sign_of(*operator))
+            format!(in alloc; "({left} {} {right})", terminal_of(*operator))
         }
         Expr::Brackets { inner } => {
             let inner = show(alloc, inner.get())?;

@@ -3,7 +3,7 @@ use Rattle.std.proofs.lemmas.Result.{IfOk-weaker}
 use Rattle.std.proofs.lemmas.Option.{IfSome_then}
 use Rattle.cx_first.specs.Tree.{tree_of}
 use Rattle.cx_first.specs.Grammar.{Chains, ends}
-use Rattle.cx_first.proofs.DescentLaws.{reads_number, reads_negation, reads_brackets, reads_chain, chains_more, closed_stops, bracket_parts, chain_parts, chains_parts, brackets_same, sign_same, sign_is_at, chains_on}
+use Rattle.cx_first.proofs.DescentLaws.{reads_number, reads_negation, reads_brackets, reads_chain, chains_more, closed_stops, bracket_parts, chain_parts, chains_parts, brackets_same, terminal_same, terminal_is_at, chains_on}
 use Rattle.cx_first.proofs.expressions.+expression.Goals as goal
 
 pub bracketed-returns-in-None-clause-only : goal.bracketed-returns-in-None-clause-only
@@ -11,25 +11,25 @@ bracketed-returns-in-None-clause-only t c = λ t' rest r.
     let b = bracket_parts _ _ _ _ _ c.requires.open r in
     rw c.in-None.is at (c.in_ok-chain.ensures.only b.inner (b.close ∷ rest) b.reads (closed_stops b.close rest b.closes))
 
-pub bracketed-returns-in-None-behind_sign-clause-only :
-    goal.bracketed-returns-in-None-behind_sign-clause-only
-bracketed-returns-in-None-behind_sign-clause-only t c = λ t' rest r.
+pub bracketed-returns-in-None-after_terminal-clause-only :
+    goal.bracketed-returns-in-None-after_terminal-clause-only
+bracketed-returns-in-None-after_terminal-clause-only t c = λ t' rest r.
     let b = bracket_parts _ _ _ _ _ c.requires.open r in
     let same = rw c.in-Some.is at (c.in_ok-chain.ensures.only b.inner (b.close ∷ rest) b.reads (closed_stops b.close rest b.closes)) in
-    c.in-None-behind_sign.ensures rest (sign_is_at _ _ rest b.close b.closes same.1)
+    c.in-None-after_terminal.ensures rest (terminal_is_at _ _ rest b.close b.closes same.1)
 
-pub bracketed-returns-in_ok-inner-in-Some-behind_sign-clause-found :
-    goal.bracketed-returns-in_ok-inner-in-Some-behind_sign-clause-found
-bracketed-returns-in_ok-inner-in-Some-behind_sign-clause-found t c =
+pub bracketed-returns-in_ok-inner-in-Some-after_terminal-clause-found :
+    goal.bracketed-returns-in_ok-inner-in-Some-after_terminal-clause-found
+bracketed-returns-in_ok-inner-in-Some-after_terminal-clause-found t c =
     let found = rw c.in-Some.is at c.in_ok-chain.ensures.found in
-    rw c.in_ok-inner-in-Some-behind_sign.ensures (reads_brackets _ _ _ _ _ _ c.requires.open found c.in-Some-behind_sign.ensures)
+    rw c.in_ok-inner-in-Some-after_terminal.ensures (reads_brackets _ _ _ _ _ _ c.requires.open found c.in-Some-after_terminal.ensures)
 
-pub bracketed-returns-in_ok-inner-in-Some-behind_sign-clause-only :
-    goal.bracketed-returns-in_ok-inner-in-Some-behind_sign-clause-only
-bracketed-returns-in_ok-inner-in-Some-behind_sign-clause-only t c = λ t' rest r.
+pub bracketed-returns-in_ok-inner-in-Some-after_terminal-clause-only :
+    goal.bracketed-returns-in_ok-inner-in-Some-after_terminal-clause-only
+bracketed-returns-in_ok-inner-in-Some-after_terminal-clause-only t c = λ t' rest r.
     let b = bracket_parts _ _ _ _ _ c.requires.open r in
     let same = rw c.in-Some.is at (c.in_ok-chain.ensures.only b.inner (b.close ∷ rest) b.reads (closed_stops b.close rest b.closes)) in
-    (brackets_same _ _ _ _ c.in_ok-inner-in-Some-behind_sign.ensures same.0 b.tree, sign_same _ _ _ _ b.close c.in-Some-behind_sign.ensures same.1)
+    (brackets_same _ _ _ _ c.in_ok-inner-in-Some-after_terminal.ensures same.0 b.tree, terminal_same _ _ _ _ b.close c.in-Some-after_terminal.ensures same.1)
 
 pub chain-returns-in-None-clause-only : goal.chain-returns-in-None-clause-only
 chain-returns-in-None-clause-only t c = λ t' rest r s.

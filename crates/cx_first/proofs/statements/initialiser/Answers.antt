@@ -17,9 +17,9 @@ returns-in-Some-2-clause-only c = λ t mark rest i m.
     let same = rw c.in-Some-2.is at (c.in_ok-expression-in-Equals.ensures.only p.tree mark rest p.expression m) in
     (ap Some same.0 ∙ sym p.is, same.1, same.2)
 
-pub returns-in_default-sign_of : goal.returns-in_default-sign_of
-returns-in_default-sign_of c = record {
-  found = rw c.in-Some.ensures (bare_at (sym c.sign_of.ensures) c.in_default-sign_of.not-Equals);
-  only = λ t mark rest i m. bare_parts _ (sym c.sign_of.ensures) c.in_default-sign_of.not-Equals (rw c.in-Some.ensures at i);
+pub returns-in_default-terminal_of : goal.returns-in_default-terminal_of
+returns-in_default-terminal_of c = record {
+  found = rw c.in-Some.ensures (bare_at (sym c.terminal_of.ensures) c.in_default-terminal_of.not-Equals);
+  only = λ t mark rest i m. bare_parts _ (sym c.terminal_of.ensures) c.in_default-terminal_of.not-Equals (rw c.in-Some.ensures at i);
   shorter = omega (arith, ap length c.in-Some.ensures);
 }

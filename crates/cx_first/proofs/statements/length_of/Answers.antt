@@ -5,11 +5,11 @@ use Rattle.cx_first.proofs.statements.length_of.Goals as goal
 
 pub returns-then-ends_expression : goal.returns-then-ends_expression
 returns-then-ends_expression c =
-    counts_stop _ _ _ _ _ _ c.loop-piece.invariant.going c.in-Some.ensures (ap ends_expression (sym c.sign_of.ensures) ∙ sym c.if-ends_expression.ensures)
+    counts_stop _ _ _ _ _ _ c.loop-piece.invariant.going c.in-Some.ensures (ap ends_expression (sym c.terminal_of.ensures) ∙ sym c.if-ends_expression.ensures)
 
 pub returns-then-count-limit : goal.returns-then-count-limit
 returns-then-count-limit c =
-    counts_out _ _ _ _ _ _ c.loop-piece.invariant.going c.in-Some.ensures (ap ends_expression (sym c.sign_of.ensures) ∙ sym c.if-ends_expression.ensures) (omega arith)
+    counts_out _ _ _ _ _ _ c.loop-piece.invariant.going c.in-Some.ensures (ap ends_expression (sym c.terminal_of.ensures) ∙ sym c.if-ends_expression.ensures) (omega arith)
 
 pub loop-piece-preserved : goal.loop-piece-preserved
 loop-piece-preserved c =
@@ -17,7 +17,7 @@ loop-piece-preserved c =
     record {
       within = omega arith;
       counted = omega (arith, ap length c.in-Some.ensures);
-      going = counts_on _ _ _ _ _ _ _ c.loop-piece.invariant.going c.in-Some.ensures (ap ends_expression (sym c.sign_of.ensures) ∙ sym c.if-ends_expression.ensures) z;
+      going = counts_on _ _ _ _ _ _ _ c.loop-piece.invariant.going c.in-Some.ensures (ap ends_expression (sym c.terminal_of.ensures) ∙ sym c.if-ends_expression.ensures) z;
     }
 
 pub returns : goal.returns

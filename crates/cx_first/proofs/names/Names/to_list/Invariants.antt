@@ -1,8 +1,6 @@
-use Rattle.std.proofs.Common.{◌≡◌, map, take}
+use Rattle.std.proofs.Common.{◌≡◌, ◌≤◌, take, length}
+use Rattle.cx_table.specs.NameTable.{names_of}
 use Rattle.cx_first.proofs.names.Names.to_list.Given as goal
 
-abbrev pub invariant-loop-name : goal.invariant-loop-name
-invariant-loop-name l = record {
-  view : map (λ name. name.items) l.name-items ≡ l.self;
-  list : l.list ≡ map (λ name. name.items) (take l.name-index l.name-items);
-}
+abbrev pub invariant-loop-index : goal.invariant-loop-index
+invariant-loop-index l = l.list ≡ take l.index l.self

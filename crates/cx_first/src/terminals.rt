@@ -1,15 +1,15 @@
 //! What a piece is to the grammar of a first text.
 ghost use Rattle.std.specs.Prelude.{◌≡◌, [], ◌∷◌, MatchOption};
-ghost use Rattle.cx_first.specs.Signs as meaning;
-ghost use Rattle.cx_first.specs.Descent.{SignAt, NoSign};
+ghost use Rattle.cx_first.specs.Terminals as meaning;
+ghost use Rattle.cx_first.specs.Descent.{TerminalAt, NoTerminal};
 
 use crate::keywords::{equals, is_keyword};
 use cx_lex::{Piece, number_value};
 use cx_tokens::Kind;
 
-/// The sign of a piece: all that the grammar asks of it but its text and its place.
+/// The terminal of a piece: all that the grammar asks of it but its text and its place.
 #[derive(Clone, Copy, Debug, PartialEq, Eq)]
-pub enum Sign {
+pub enum Terminal {
     /// `int`
     Int,
     /// `void`
@@ -46,76 +46,77 @@ pub enum Sign {
     Foreign,
 }
 
-/// A word's sign.
-#[tactic(auto, unfolding(crate::specs::Signs::word))]
-fn word(text: &[u8]) -> Sign
+/// A word's terminal.
+#[tactic(auto, unfolding(crate::specs::Terminals::word))]
+fn word(text: &[u8]) -> Terminal
     ensures { result ≡ meaning.word text.now }
 {
     if equals(text, b"int") {
-        Sign::Int
+        Terminal::Int
     } else if equals(text, b"void") {
-        Sign::Void
+        Terminal::Void
     } else if equals(text, b"return") {
-        Sign::Return
+        Terminal::Return
     } else if is_keyword(text) {
-        Sign::Foreign
+        Terminal::Foreign
     } else {
-        Sign::Name
+        Terminal::Name
     }
 }
 
-/// A punctuator's sign, by its one byte.
-fn mark_of(byte: u8) -> Sign
+/// A punctuator's terminal, by its one byte.
+fn mark_of(byte: u8) -> Terminal
     ensures { result ≡ meaning.mark_of byte }
 {
     match byte {
-        b'(' => Sign::Open,
-        b')' => Sign::Close,
-        b'{' => Sign::Begin,
-        b'}' => Sign::End,
-        b',' => Sign::Comma,
-        b';' => Sign::Semicolon,
-        b'=' => Sign::Equals,
-        b'+' => Sign::Plus,
-        b'-' => Sign::Minus,
-        b'*' => Sign::Star,
-        b'/' => Sign::Slash,
-        _ => Sign::Foreign,
+        b'(' => Terminal::Open,
+        b')' => Terminal::Close,
+        b'{' => Terminal::Begin,
+        b'}' => Terminal::End,
+        b',' => Terminal::Comma,
+        b';' => Terminal::Semicolon,
+        b'=' => Terminal::Equals,
+        b'+' => Terminal::Plus,
+        b'-' => Terminal::Minus,
+        b'*' => Terminal::Star,
+        b'/' => Terminal::Slash,
+        _ => Terminal::Foreign,
     }
 }
 
-/// A punctuator's sign.
-fn mark(text: &[u8]) -> Sign
+/// A punctuator's terminal.
+fn mark(text: &[u8]) -> Terminal
     ensures { result ≡ meaning.mark text.now }
 {
     match text {
         [byte] => mark_of(*byte),
-        _ => Sign::Foreign,
+        _ => Terminal::Foreign,
     }
 }
 
-/// A number's sign.
-#[tactic(auto, using(crate::proofs::SignLaws::number_is, crate::proofs::SignLaws::number_none))]
-fn number(text: &[u8]) -> Sign
+/// A number's terminal.
+#[tactic(auto, using(crate::proofs::TerminalLaws::number_is, crate::proofs::TerminalLaws::number_none))]
+fn number(text: &[u8]) -> Terminal
     ensures { result ≡ meaning.number text.now }
 {
     match number_value(text) {
-        Some(value) => Sign::Number(value),
-        None => Sign::Foreign,
+        Some(value) => Terminal::Number(value),
+        None => Terminal::Foreign,
     }
 }
 
-/// The sign of a piece.
-#[tactic(auto, unfolding(crate::specs::Signs::sign))]
-pub(crate) fn sign_of(piece: &Piece) -> Sign
-    ensures { result ≡ meaning.sign piece.now }
+/// The terminal of a piece.
+#[tactic(auto, unfolding(crate::specs::Terminals::terminal))]
+pub(crate) fn terminal_of(piece: &Piece) -> Terminal
+    ensures { result ≡ meaning.terminal piece.now }
 {
     let text = piece.token.text.as_slice();
     match piece.token.kind {
         Kind::Name => word(text),
         Kind::Number => number(text),
         Kind::Punct => mark(text),
-        Kind::Char | Kind::String | Kind::Unclosed | Kind::Header | Kind::Other => Sign::Foreign,
+        Kind::Char | Kind::String | Kind::Unclosed | Kind::Header | Kind::Other =>
+            Terminal::Foreign,
     }
 }
 
@@ -129,12 +130,12 @@ pub(crate) fn first<'a>(pieces: &'a [Piece]) -> Option<(&'a Piece, &'a [Piece])>
     }
 }
 
-/// What stands behind a piece of this sign.
-pub(crate) fn behind_sign<'a>(wanted: Sign, pieces: &'a [Piece]) -> Option<&'a [Piece]>
-    ensures { MatchOption result (NoSign wanted pieces.now) (λ rest. SignAt wanted pieces.now rest.now) }
+/// What stands behind a piece of this terminal.
+pub(crate) fn after_terminal<'a>(wanted: Terminal, pieces: &'a [Piece]) -> Option<&'a [Piece]>
+    ensures { MatchOption result (NoTerminal wanted pieces.now) (λ rest. TerminalAt wanted pieces.now rest.now) }
 {
     let (piece, rest) = first(pieces)?;
-    if sign_of(piece) == wanted {
+    if terminal_of(piece) == wanted {
         Some(rest)
     } else {
         None

@@ -1,11 +1,11 @@
--- What a number's sign says is what its text is.
+-- What a number's terminal says is what its text is.
 use Rattle.std.proofs.Common.{◌≡◌, ℕ, ◌==◌, Bool, true, false, not, ◌&&◌, cond, nat_le, nat_lt, List, [], ◌∷◌, length, refl, arith}
 use Rattle.std.proofs.lemmas.Bool.Decides.{nat_tests}
 use Rattle.std.specs.List.{list_all}
 use Rattle.cx_lex.specs.Characters.{is_digit}
-use Rattle.cx_lex.specs.Forms.{number_of, greatest, IsIntConstant}
-use Rattle.cx_first.specs.declared.signs.Sign.TheVariants as sign_is
-use Rattle.cx_first.specs.Signs.{number, is_int_constant}
+use Rattle.cx_lex.specs.FirstPieces.{number_of, greatest, IsIntConstant}
+use Rattle.cx_first.specs.declared.terminals.Terminal.TheVariants as terminal_is
+use Rattle.cx_first.specs.Terminals.{number, is_int_constant}
 
 no_zero : (byte : ℕ) (bytes : List ℕ) → (byte ≡ 48 → bytes ≡ []) → not (byte == 48 && nat_lt 0 (length bytes)) ≡ true
 no_zero byte [] h = grind (arith, nat_tests)
@@ -35,13 +35,13 @@ constant_is (byte ∷ bytes) h =
     let inner = both (list_all is_digit (byte ∷ bytes)) (not (byte == 48 && nat_lt 0 (length bytes))) outer.0 in
     ((inner.0, zero_alone byte bytes inner.1), grind (arith, nat_tests, outer.1))
 
-pub number_is : (text : List ℕ) (value : ℕ) → IsIntConstant text × (value ≡ number_of text) → sign_is.Number value ≡ number text
+pub number_is : (text : List ℕ) (value : ℕ) → IsIntConstant text × (value ≡ number_of text) → terminal_is.Number value ≡ number text
 unfolding number
 number_is text value h = rw (constant_true text h.0, h.1) refl
 
-pub number_none : (text : List ℕ) → ¬ IsIntConstant text → sign_is.Foreign ≡ number text
+pub number_none : (text : List ℕ) → ¬ IsIntConstant text → terminal_is.Foreign ≡ number text
 unfolding number
-number_none text h = elim (is_int_constant text) as (λ b. is_int_constant text ≡ b → sign_is.Foreign ≡ cond b (sign_is.Number (number_of text)) sign_is.Foreign) [
+number_none text h = elim (is_int_constant text) as (λ b. is_int_constant text ≡ b → terminal_is.Foreign ≡ cond b (terminal_is.Number (number_of text)) terminal_is.Foreign) [
   | true ↦ λ e. absurd (h (constant_is text e))
   | false ↦ λ e. refl
 ] refl

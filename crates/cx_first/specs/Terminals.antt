@@ -6,9 +6,9 @@ use Rattle.cx_tokens.specs.declared.token.Kind.{Kind}
 use Rattle.cx_tokens.specs.declared.token.Kind.TheVariants as kind
 use Rattle.cx_lex.specs.declared.piece.Piece.{Piece}
 use Rattle.cx_lex.specs.Characters.{is_digit}
-use Rattle.cx_lex.specs.Forms.{number_of, greatest}
-use Rattle.cx_first.specs.declared.signs.Sign.{Sign}
-use Rattle.cx_first.specs.declared.signs.Sign.TheVariants as sign_is
+use Rattle.cx_lex.specs.FirstPieces.{number_of, greatest}
+use Rattle.cx_first.specs.declared.terminals.Terminal.{Terminal}
+use Rattle.cx_first.specs.declared.terminals.Terminal.TheVariants as terminal_is
 
 abbrev pub same : List ℕ → List ℕ → Bool
 same word other = bytes_eq word other
@@ -31,33 +31,33 @@ keywords =
 unfoldable pub is_keyword : List ℕ → Bool
 is_keyword word = list_any (same word) keywords
 
-unfoldable pub word : List ℕ → Sign
+unfoldable pub word : List ℕ → Terminal
 word text =
-    if same text (codes "int") then sign_is.Int
-    else if same text (codes "void") then sign_is.Void
-    else if same text (codes "return") then sign_is.Return
-    else if is_keyword text then sign_is.Foreign
-    else sign_is.Name
+    if same text (codes "int") then terminal_is.Int
+    else if same text (codes "void") then terminal_is.Void
+    else if same text (codes "return") then terminal_is.Return
+    else if is_keyword text then terminal_is.Foreign
+    else terminal_is.Name
 
 -- the punctuators ( ) { } , ; = + - * / by their codes
-abbrev pub mark_of : ℕ → Sign
+abbrev pub mark_of : ℕ → Terminal
 mark_of byte =
-    if byte == 40 then sign_is.Open
-    else if byte == 41 then sign_is.Close
-    else if byte == 123 then sign_is.Begin
-    else if byte == 125 then sign_is.End
-    else if byte == 44 then sign_is.Comma
-    else if byte == 59 then sign_is.Semicolon
-    else if byte == 61 then sign_is.Equals
-    else if byte == 43 then sign_is.Plus
-    else if byte == 45 then sign_is.Minus
-    else if byte == 42 then sign_is.Star
-    else if byte == 47 then sign_is.Slash
-    else sign_is.Foreign
+    if byte == 40 then terminal_is.Open
+    else if byte == 41 then terminal_is.Close
+    else if byte == 123 then terminal_is.Begin
+    else if byte == 125 then terminal_is.End
+    else if byte == 44 then terminal_is.Comma
+    else if byte == 59 then terminal_is.Semicolon
+    else if byte == 61 then terminal_is.Equals
+    else if byte == 43 then terminal_is.Plus
+    else if byte == 45 then terminal_is.Minus
+    else if byte == 42 then terminal_is.Star
+    else if byte == 47 then terminal_is.Slash
+    else terminal_is.Foreign
 
-abbrev pub mark : List ℕ → Sign
+abbrev pub mark : List ℕ → Terminal
 mark (byte ∷ []) = mark_of byte
-mark text = sign_is.Foreign
+mark text = terminal_is.Foreign
 
 -- whether a number is a decimal constant that is a value of type int: digits, the first of which is 0 only where it is
 -- alone (C11 6.4.4.1)
@@ -66,18 +66,18 @@ is_int_constant [] = false
 is_int_constant (byte ∷ bytes) =
     list_all is_digit (byte ∷ bytes) && not (byte == 48 && nat_lt 0 (length bytes)) && nat_le (number_of (byte ∷ bytes)) greatest
 
-unfoldable pub number : List ℕ → Sign
-number text = if is_int_constant text then sign_is.Number (number_of text) else sign_is.Foreign
+unfoldable pub number : List ℕ → Terminal
+number text = if is_int_constant text then terminal_is.Number (number_of text) else terminal_is.Foreign
 
-abbrev pub sign_of : Kind → List ℕ → Sign
-sign_of kind.Name text = word text
-sign_of kind.Number text = number text
-sign_of kind.Punct text = mark text
-sign_of kind.Char text = sign_is.Foreign
-sign_of kind.String text = sign_is.Foreign
-sign_of kind.Unclosed text = sign_is.Foreign
-sign_of kind.Header text = sign_is.Foreign
-sign_of kind.Other text = sign_is.Foreign
+abbrev pub terminal_of : Kind → List ℕ → Terminal
+terminal_of kind.Name text = word text
+terminal_of kind.Number text = number text
+terminal_of kind.Punct text = mark text
+terminal_of kind.Char text = terminal_is.Foreign
+terminal_of kind.String text = terminal_is.Foreign
+terminal_of kind.Unclosed text = terminal_is.Foreign
+terminal_of kind.Header text = terminal_is.Foreign
+terminal_of kind.Other text = terminal_is.Foreign
 
-unfoldable pub sign : Piece → Sign
-sign piece = sign_of piece.token.kind piece.token.text
+unfoldable pub terminal : Piece → Terminal
+terminal piece = terminal_of piece.token.kind piece.token.text
