@@ -3,7 +3,7 @@ use cx_base::{Bytes, NoMemory, Path};
 use std::alloc::Global;
 use std::env::{Env, FillError};
 
-/// The arguments behind the program's name.
+/// The arguments after the program's name.
 #[derive(Drop)]
 pub(crate) enum Arguments {
     /// Each of them is text.
@@ -15,7 +15,7 @@ pub(crate) enum Arguments {
 /// How much room an argument is given at first, in bytes.
 const FIRST_ROOM: usize = 256;
 
-// The bytes of an argument, and None behind the last one.
+// The bytes of an argument, and None after the last one.
 fn argument(env: &impl Env, alloc: Global, number: usize) -> Result<Option<Vec<u8>>, NoMemory> {
     let mut buffer = vec![in alloc; 0u8; FIRST_ROOM]?;
     for _ in 0..64 {
@@ -41,10 +41,10 @@ fn push_lossy(text: &mut Bytes, bytes: &[u8]) -> Result<(), NoMemory> {
         let valid = error.valid_up_to();
         text.push_all(&rest[..valid])?;
         text.push_all("\u{FFFD}".as_bytes())?;
-        let Some((_, behind)) = rest[valid..].split_first() else {
+        let Some((_, after)) = rest[valid..].split_first() else {
             return Ok(());
         };
-        rest = behind;
+        rest = after;
     }
     text.push_all(rest)
 }
@@ -58,7 +58,7 @@ fn refusal(alloc: Global, argument: &[u8]) -> Result<Bytes, NoMemory> {
     Ok(text)
 }
 
-/// Reads the arguments behind the program's name.
+/// Reads the arguments after the program's name.
 pub(crate) fn read_arguments(env: &impl Env, alloc: Global) -> Result<Arguments, NoMemory> {
     let mut words = Vec::new(alloc);
     for number in 1..usize::MAX {

@@ -1,5 +1,8 @@
 //! How a case is written, and how it is run.
-use cx_base::{Bytes, List, MemoryFiles, MemorySink, Path, Seen, Stored, can_stand};
+use cx_base::{
+    Answer, Bytes, FileCall, FileRequest, List, MemoryFiles, MemorySink, Path, SeenEntry, Stored,
+    can_stand,
+};
 use cx_run::{Cause, are_in_bounds, run};
 use std::alloc::Global;
 use std::process::Abort;
@@ -35,6 +38,53 @@ pub enum Taking {
     Failing,
 }
 
+/// What stands at a path that was asked.
+#[derive(Clone, Copy)]
+pub enum Stands {
+    /// The file of that path, with its bytes.
+    File,
+    Nothing,
+    Folder,
+    /// What could not be read.
+    Unreadable,
+    /// A file past the limit.
+    TooLarge,
+}
+
+/// A call on the path, and whether it failed.
+#[derive(Clone, Copy)]
+pub struct Call {
+    pub request: FileRequest,
+    pub failed: bool,
+}
+
+/// A path that is to be asked, the answer, and the calls by which it is got.
+#[derive(Clone, Copy)]
+pub struct Asked {
+    pub path: &'static str,
+    pub stands: Stands,
+    pub calls: &'static [Call],
+}
+
+/// The call for the members of a folder.
+pub const LIST: Call = Call {
+    request: FileRequest::List,
+    failed: false,
+};
+
+/// The call for the bytes of a file.
+pub const READ: Call = Call {
+    request: FileRequest::Read { most: 4_194_305 },
+    failed: false,
+};
+
+/// The file `a.c`.
+pub const FILE: Asked = Asked {
+    path: "a.c",
+    stands: Stands::File,
+    calls: &[LIST, READ],
+};
+
 /// What is run, and what it is to give.
 #[derive(Clone, Copy)]
 pub struct Case {
@@ -49,8 +99,8 @@ pub struct Case {
     pub status: u8,
     pub told: &'static str,
     pub found: &'static str,
-    /// How many paths were asked.
-    pub seen: usize,
+    /// The paths that are asked, in order.
+    pub seen: &'static [Asked],
 }
 
 /// A case of one word over whole sinks; its further fields are changed by the table.
@@ -65,7 +115,7 @@ pub const PLAIN: Case = Case {
     status: 0,
     told: "Checking a.c ...\n",
     found: "",
-    seen: 1,
+    seen: &[FILE],
 };
 
 fn push_times(bytes: &mut Bytes, text: &[u8], count: usize) -> Result<(), Fail> {
@@ -138,6 +188,86 @@ fn sink_of(alloc: Global, taking: Taking) -> Result<MemorySink, Fail> {
     }
 }
 
+// The bytes of the file at a path.
+fn content_at(
+    alloc: Global,
+    files: &[(&'static str, Content)],
+    path: &str,
+) -> Result<Option<Bytes>, Fail> {
+    for (name, content) in files {
+        if *name == path {
+            return Ok(Some(bytes_of(alloc, *content)?));
+        }
+    }
+    Ok(None)
+}
+
+// Whether an answer is what is to stand at the path.
+fn is_answer(
+    alloc: Global,
+    answer: &Answer,
+    asked: &Asked,
+    files: &[(&'static str, Content)],
+) -> Result<bool, Fail> {
+    match (answer, asked.stands) {
+        (Answer::Present(bytes), Stands::File) => {
+            let Some(wanted) = content_at(alloc, files, asked.path)? else {
+                return Ok(false);
+            };
+            Ok(bytes.as_slice() == wanted.as_slice())
+        }
+        (Answer::Absent, Stands::Nothing) => Ok(true),
+        (Answer::Folder(_), Stands::Folder) => Ok(true),
+        (Answer::Unreadable, Stands::Unreadable) => Ok(true),
+        (Answer::TooLarge, Stands::TooLarge) => Ok(true),
+        _ => Ok(false),
+    }
+}
+
+// Compares what was seen with what was to be asked.
+fn try_seen(
+    rt: &impl Abort,
+    alloc: Global,
+    case: &Case,
+    files: &[(&'static str, Content)],
+    seen: &[SeenEntry],
+) -> Result<(), Fail> {
+    let name = case.name;
+    assert_eq!(rt;
+        seen.len(),
+        case.seen.len(),
+        "{name}: how many paths were asked"
+    );
+    for (entry, asked) in seen.iter().zip(case.seen) {
+        assert!(rt; entry.path.as_str() == asked.path, "{name}: the path asked");
+        let same = is_answer(alloc, &entry.answer, asked, files)?;
+        assert!(rt; same, "{name}: the answer");
+    }
+    Ok(())
+}
+
+// Whether a call is the one that was to be made.
+fn is_call(call: &FileCall, path: &str, wanted: Call) -> bool {
+    call.path.as_str() == path && call.request == wanted.request && call.failed == wanted.failed
+}
+
+// Compares the calls that the files tell with those that were to be made.
+fn try_calls(rt: &impl Abort, case: &Case, calls: &[FileCall]) {
+    let name = case.name;
+    let mut rest = calls;
+    for asked in case.seen {
+        for wanted in asked.calls {
+            let Some((call, after)) = rest.split_first() else {
+                assert!(rt; false, "{name}: a call is missing");
+                return;
+            };
+            assert!(rt; is_call(call, asked.path, *wanted), "{name}: the call");
+            rest = after;
+        }
+    }
+    assert!(rt; rest.is_empty(), "{name}: a call too many");
+}
+
 /// Runs a case over these files, and compares what it gave.
 pub(crate) fn try_case(
     rt: &impl Abort,
@@ -146,17 +276,18 @@ pub(crate) fn try_case(
     files: &[(&'static str, Content)],
 ) -> Result<(), Fail> {
     let name = case.name;
-    let files = files_of(alloc, files)?;
+    let stored = files_of(alloc, files)?;
     let words = words_of(alloc, case.words)?;
     let mut out = sink_of(alloc, case.out)?;
     let mut err = sink_of(alloc, case.err)?;
-    assert!(rt; can_stand(files.as_slice()), "{name}: the files");
+    assert!(rt; can_stand(stored.as_slice()), "{name}: the files");
     assert!(rt; are_in_bounds(words.as_slice()), "{name}: the words");
-    let mut files = MemoryFiles::new(alloc, files, numbers_of(alloc, case.failing)?);
-    let ended = run(alloc, words.as_slice(), &mut files, &mut out, &mut err);
+    let mut outside = MemoryFiles::new(alloc, stored, numbers_of(alloc, case.failing)?);
+    let ended = run(alloc, words.as_slice(), &mut outside, &mut out, &mut err);
     assert_eq!(rt; ended.cause, case.cause, "{name}: the cause");
     assert_eq!(rt; ended.status, case.status, "{name}: the status");
-    assert_eq!(rt; ended.seen.len(), case.seen, "{name}: the paths asked");
+    try_seen(rt, alloc, case, files, ended.seen.as_slice())?;
+    try_calls(rt, case, outside.calls());
     assert!(rt;
         out.bytes().as_slice() == case.told.as_bytes(),
         "{name}: out"

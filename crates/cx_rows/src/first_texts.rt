@@ -1,8 +1,14 @@
 //! Tables of first texts: what is found in them, and which texts are none.
-use crate::cases::{Case, Content, PLAIN, try_case};
+use crate::cases::{Asked, Case, Content, FILE, PLAIN, Stands, try_case};
 use cx_run::Cause;
 use std::process::Abort;
 use std::test::Fail;
+
+/// `a.c`, which is past the limit.
+const LARGE: Asked = Asked {
+    stands: Stands::TooLarge,
+    ..FILE
+};
 
 const NOT_BUILT: &str = "cppcheck: error: not built yet.\n";
 
@@ -216,8 +222,17 @@ fn try_text(
     content: Content,
     found: Option<&'static str>,
 ) -> Result<(), Fail> {
+    try_seen_text(rt, Case { name, ..PLAIN }, content, found)
+}
+
+// A text in the file of a case, which is run as this case says.
+fn try_seen_text(
+    rt: &(impl Abort + AllocGlobal),
+    plain: Case,
+    content: Content,
+    found: Option<&'static str>,
+) -> Result<(), Fail> {
     let files = [("a.c", content)];
-    let plain = Case { name, ..PLAIN };
     let case = match found {
         Some(found) => Case { found, ..plain },
         None => Case {
@@ -289,5 +304,10 @@ fn many_statements_are_run(rt: HostRuntime) -> Result<(), Fail> {
 #[test]
 fn a_file_has_at_most_4194304_bytes(rt: HostRuntime) -> Result<(), Fail> {
     try_text(&rt, "4,194,304 bytes", Content::Blanks(4_194_304), Some(""))?;
-    try_text(&rt, "4,194,305 bytes", Content::Blanks(4_194_305), None)
+    let large = Case {
+        name: "4,194,305 bytes",
+        seen: &[LARGE],
+        ..PLAIN
+    };
+    try_seen_text(&rt, large, Content::Blanks(4_194_305), None)
 }

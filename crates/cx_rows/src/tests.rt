@@ -1,5 +1,5 @@
 //! The tables.
-use crate::cases::{Case, Content, PLAIN, Taking, try_case};
+use crate::cases::{Asked, Call, Case, Content, FILE, LIST, PLAIN, READ, Stands, Taking, try_case};
 use cx_run::{Cause, SinkName};
 use std::process::Abort;
 use std::test::Fail;
@@ -10,11 +10,48 @@ const NO_INPUT: &str = "cppcheck: error: could not find any file to check.\n";
 
 const READ_FAULT: &str = "a.c:0:0: error: File could not be read: a.c [readFault]\n";
 
+/// Nothing at `a.c`.
+const NOTHING: Asked = Asked {
+    stands: Stands::Nothing,
+    ..FILE
+};
+
+/// `a.c`, which cannot be listed.
+const UNLISTED: Asked = Asked {
+    path: "a.c",
+    stands: Stands::Unreadable,
+    calls: &[Call {
+        failed: true,
+        ..LIST
+    }],
+};
+
+/// `a.c`, which cannot be read.
+const UNREAD: Asked = Asked {
+    path: "a.c",
+    stands: Stands::Unreadable,
+    calls: &[
+        LIST,
+        Call {
+            failed: true,
+            ..READ
+        },
+    ],
+};
+
+/// The folder `a.c`.
+const FOLDER: Asked = Asked {
+    path: "a.c",
+    stands: Stands::Folder,
+    calls: &[LIST],
+};
+
 /// What is asked of one path, and what is told of it.
 const ANSWERS: [Case; 7] = [
     PLAIN,
     Case {
         name: "an absent file",
+        seen: &[NOTHING],
         files: &[],
         cause: Cause::NoInput,
         status: 1,
@@ -24,23 +61,26 @@ const ANSWERS: [Case; 7] = [
     },
     Case {
         name: "a failing list",
+        seen: &[UNLISTED],
         failing: &[0],
         found: READ_FAULT,
         ..PLAIN
     },
     Case {
         name: "a failing read",
+        seen: &[UNREAD],
         failing: &[1],
         found: READ_FAULT,
         ..PLAIN
     },
     Case {
-        name: "a failing call behind the last",
+        name: "a failing call after the last",
         failing: &[2],
         ..PLAIN
     },
     Case {
         name: "a folder",
+        seen: &[FOLDER],
         files: &[("a.c/b.c", Content::Text(b""))],
         cause: Cause::NotBuilt,
         status: 1,
@@ -102,7 +142,7 @@ const WORDS: [Case; 14] = [
         ..REFUSED
     },
     Case {
-        name: "more behind the end",
+        name: "more after the end",
         words: &["a.cc"],
         ..REFUSED
     },
@@ -138,6 +178,7 @@ const NAMES: [Case; 4] = [
     Case {
         name: "the end alone",
         words: &[".c"],
+        seen: &[Asked { path: ".c", ..FILE }],
         files: &[(".c", Content::Text(b""))],
         told: "Checking .c ...\n",
         ..PLAIN
@@ -145,6 +186,10 @@ const NAMES: [Case; 4] = [
     Case {
         name: "two dots",
         words: &["..c"],
+        seen: &[Asked {
+            path: "..c",
+            ..FILE
+        }],
         files: &[("..c", Content::Text(b""))],
         told: "Checking ..c ...\n",
         ..PLAIN
@@ -152,6 +197,10 @@ const NAMES: [Case; 4] = [
     Case {
         name: "every kind of byte",
         words: &["aZ_09.x.c"],
+        seen: &[Asked {
+            path: "aZ_09.x.c",
+            ..FILE
+        }],
         files: &[("aZ_09.x.c", Content::Text(b""))],
         told: "Checking aZ_09.x.c ...\n",
         ..PLAIN
@@ -206,19 +255,22 @@ const SINKS: [Case; 13] = [
     Case {
         name: "err has room for nothing",
         failing: &[1],
+        seen: &[UNREAD],
         err: Taking::Room(0),
         ..ERR_FAULT
     },
     Case {
         name: "err has room for some",
         failing: &[1],
+        seen: &[UNREAD],
         err: Taking::Room(5),
         found: "a.c:0",
         ..ERR_FAULT
     },
     Case {
-        name: "nothing behind a fault",
+        name: "nothing after a fault",
         failing: &[1],
+        seen: &[UNREAD],
         out: Taking::Room(3),
         told: "Che",
         ..OUT_FAULT
@@ -229,12 +281,13 @@ const SINKS: [Case; 13] = [
         err: Taking::Room(5),
         told: "",
         found: "cppch",
-        seen: 0,
+        seen: &[],
         ..ERR_FAULT
     },
     Case {
         name: "slow sinks",
         failing: &[1],
+        seen: &[UNREAD],
         out: Taking::Slow(1),
         err: Taking::Slow(1),
         found: READ_FAULT,
@@ -243,6 +296,7 @@ const SINKS: [Case; 13] = [
     Case {
         name: "sinks that take some",
         failing: &[1],
+        seen: &[UNREAD],
         out: Taking::Slow(5),
         err: Taking::Slow(7),
         found: READ_FAULT,
@@ -261,7 +315,7 @@ const REFUSED: Case = Case {
     status: 1,
     told: "",
     found: NOT_BUILT,
-    seen: 0,
+    seen: &[],
     ..PLAIN
 };
 

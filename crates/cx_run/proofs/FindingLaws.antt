@@ -5,8 +5,8 @@ use Rattle.cx_lex.specs.declared.spot.Spot.{Spot}
 use Rattle.cx_tokens.specs.declared.token.Kind.{Kind}
 use Rattle.cx_tokens.specs.declared.token.Kind.TheVariants as kinds
 use Rattle.cx_lex.specs.declared.piece.Piece.{Piece}
-use Rattle.cx_lex.specs.Forms.{IsToken, IsPermitted}
-use Rattle.cx_lex.specs.Pieces.{FirstPieces, Pieces, behind}
+use Rattle.cx_lex.specs.Forms.{IsToken}
+use Rattle.cx_lex.specs.FirstPieces.{FirstPieces, IsPermitted, Pieces, behind}
 use Rattle.cx_first.specs.declared.evaluation.Undefined.{Undefined}
 use Rattle.cx_first.specs.declared.nodes.Node.{Node}
 use Rattle.cx_first.specs.Nodes.{node_of}

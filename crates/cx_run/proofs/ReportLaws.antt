@@ -1,5 +1,6 @@
 -- The words and what was seen have at most one report.
 use Rattle.std.proofs.Common.{◌≡◌, ℕ, List, [], ◌∷◌, Option, Some, None, refl, sym, ap, subst, ◌∙◌, ◌⊎◌, ⊎_elim, MatchOption}
+use Rattle.std.specs.List.{AllZip, flat_map}
 use Rattle.cx_base.specs.declared.answers.Answer.{Answer}
 use Rattle.cx_base.specs.declared.answers.Answer.TheVariants.{Present, Absent, Folder, Unreadable, TooLarge}
 use Rattle.cx_base.specs.declared.answers.SeenEntry.{SeenEntry}
@@ -16,12 +17,12 @@ use Rattle.cx_run.specs.declared.report.Cause.TheVariants.{Done, NoInput, NotBui
 use Rattle.cx_run.specs.declared.report.Report.{Report}
 use Rattle.cx_run.specs.declared.report.ReportPiece.{ReportPiece}
 use Rattle.cx_run.specs.declared.report.UnitReport.{UnitReport}
-use Rattle.cx_run.specs.Asking.{source_of}
-use Rattle.cx_run.specs.First.{Means, IsFirst, IsFindingAt, FindsBy, Finds, finding_of}
-use Rattle.cx_run.specs.Reports.{AnswerDecides, SeenDecides, AreFindings, IsUnitReport, AreUnitReports, HasPieces, IsReport, all_pieces}
+use Rattle.cx_run.specs.Asking.{source_path}
+use Rattle.cx_run.specs.First.{IsTextOf, IsFirst, IsFindingAt, FindsBy, Finds, finding_of}
+use Rattle.cx_run.specs.Reports.{AreFindings, ArePieces, IsCauseOfAnswer, IsCauseOfSeen, IsReport, IsUnitReport, unit_pieces}
 
-means_same : (bytes : List ℕ) (one other : Source) → Means bytes one → Means bytes other → one ≡ other
-means_same bytes one other a b =
+text_of_same : (bytes : List ℕ) (one other : Source) → IsTextOf bytes one → IsTextOf bytes other → one ≡ other
+text_of_same bytes one other a b =
     text_same 256 a.pieces one other a.read
     (subst (λ pieces. IsFirstText pieces other) (unique bytes b.pieces a.pieces b.cut a.cut) b.read)
 
@@ -45,7 +46,7 @@ finds_same source one other a b =
 
 findings_same : (path : List ℕ) (answer : Answer) (one other : List Finding) → AreFindings path answer one → AreFindings path answer other → one ≡ other
 findings_same path (Present bytes) one other a b =
-    finds_same a.0 one other a.2 (subst (λ s. Finds s other) (means_same bytes b.0 a.0 b.1 a.1) b.2)
+    finds_same a.0 one other a.2 (subst (λ s. Finds s other) (text_of_same bytes b.0 a.0 b.1 a.1) b.2)
 findings_same path Absent one other a b = absurd a
 findings_same path (Folder entries) one other a b = absurd a
 findings_same path Unreadable one other a b = a ∙ sym b
@@ -58,7 +59,7 @@ unit_same entry one other a b =
     let findings = findings_same entry.path entry.answer one.findings other.findings a.findings b.findings in
     λ i. record { files = files i; progress = progress i; findings = findings i }
 
-units_same : (entries : List SeenEntry) (some others : List UnitReport) → AreUnitReports entries some → AreUnitReports entries others → some ≡ others
+units_same : (entries : List SeenEntry) (some others : List UnitReport) → AllZip IsUnitReport entries some → AllZip IsUnitReport entries others → some ≡ others
 units_same [] [] [] a b = refl
 units_same [] [] (unit ∷ units) a b = absurd b
 units_same [] (unit ∷ units) others a b = absurd a
@@ -69,9 +70,9 @@ units_same (entry ∷ entries) (unit ∷ units) (other ∷ others) a b =
     let rest = units_same entries units others a.1 b.1 in
     cc
 
-pieces_same : (cause : Cause) (seen : List SeenEntry) (some others : List ReportPiece) → HasPieces cause seen some → HasPieces cause seen others → some ≡ others
+pieces_same : (cause : Cause) (seen : List SeenEntry) (some others : List ReportPiece) → ArePieces cause seen some → ArePieces cause seen others → some ≡ others
 pieces_same Done seen some others a b =
-    a.2 ∙ (ap (λ units. all_pieces units) (units_same seen a.0 b.0 a.1 b.1) ∙ sym b.2)
+    a.joined ∙ (ap (λ units. flat_map unit_pieces units) (units_same seen a.units b.units a.each b.each) ∙ sym b.joined)
 pieces_same NoInput seen some others a b = a ∙ sym b
 pieces_same NotBuilt seen some others a b = a ∙ sym b
 pieces_same (WriteFault sink) seen some others a b = absurd a
@@ -84,25 +85,25 @@ either_same P one other a b =
     (λ x. ⊎_elim (λ y. absurd (x.0 y.0)) (λ y. x.1 ∙ sym y.1) b)
     a
 
-answer_same : (answer : Answer) (one other : Cause) → AnswerDecides answer one → AnswerDecides answer other → one ≡ other
+answer_same : (answer : Answer) (one other : Cause) → IsCauseOfAnswer answer one → IsCauseOfAnswer answer other → one ≡ other
 answer_same (Present bytes) one other a b = either_same (IsFirst bytes) one other a b
 answer_same Absent one other a b = a ∙ sym b
 answer_same (Folder entries) one other a b = a ∙ sym b
 answer_same Unreadable one other a b = a ∙ sym b
 answer_same TooLarge one other a b = a ∙ sym b
 
-seen_same : (seen : List SeenEntry) (one other : Cause) → SeenDecides seen one → SeenDecides seen other → one ≡ other
+seen_same : (seen : List SeenEntry) (one other : Cause) → IsCauseOfSeen seen one → IsCauseOfSeen seen other → one ≡ other
 seen_same [] one other a b = absurd a
 seen_same (entry ∷ []) one other a b = answer_same entry.answer one other a b
 seen_same (entry ∷ next ∷ seen) one other a b = absurd a
 
 source_same : (source : Option (List ℕ)) (seen : List SeenEntry) (one other : Cause)
-    → MatchOption source (one ≡ NotBuilt) (λ path. SeenDecides seen one) → MatchOption source (other ≡ NotBuilt) (λ path. SeenDecides seen other) → one ≡ other
+    → MatchOption source (one ≡ NotBuilt) (λ path. IsCauseOfSeen seen one) → MatchOption source (other ≡ NotBuilt) (λ path. IsCauseOfSeen seen other) → one ≡ other
 source_same None seen one other a b = a ∙ sym b
 source_same (Some path) seen one other a b = seen_same seen one other a b
 
 pub one_report : (words : List (List ℕ)) (seen : List SeenEntry) (one other : Report) → IsReport words seen one → IsReport words seen other → one ≡ other
 one_report words seen one other a b =
-    let causes = source_same (source_of words) seen one.cause other.cause a.cause b.cause in
-    let pieces = pieces_same other.cause seen one.pieces other.pieces (subst (λ c. HasPieces c seen one.pieces) causes a.pieces) b.pieces in
+    let causes = source_same (source_path words) seen one.cause other.cause a.cause b.cause in
+    let pieces = pieces_same other.cause seen one.pieces other.pieces (subst (λ c. ArePieces c seen one.pieces) causes a.pieces) b.pieces in
     λ i. record { cause = causes i; pieces = pieces i }

@@ -7,7 +7,7 @@ use Rattle.cx_base.specs.declared.id.Id.{Id}
 use Rattle.cx_base.specs.declared.id.Id.TheVariants.{UninitVar, ZeroDiv, IntegerOverflow}
 use Rattle.cx_base.specs.declared.id.Severity.TheVariants.{Error}
 use Rattle.cx_lex.specs.declared.piece.Piece.{Piece}
-use Rattle.cx_lex.specs.Pieces.{FirstPieces}
+use Rattle.cx_lex.specs.FirstPieces.{FirstPieces}
 use Rattle.cx_first.specs.declared.evaluation.Undefined.{Undefined}
 use Rattle.cx_first.specs.declared.evaluation.Undefined.TheVariants.{Uninitialized, ZeroDivisor, Overflow}
 use Rattle.cx_first.specs.declared.nodes.Node.{Node}
@@ -19,14 +19,14 @@ use Rattle.cx_first.specs.Runs.{Ends, IsStuck, IsNeverPassed}
 use Rattle.cx_first.specs.Tree.{Source}
 
 -- the bytes are a first text, and this is its tree
-pub record Means (bytes : List ℕ) (source : Source) : Type 0 where
+pub record IsTextOf (bytes : List ℕ) (source : Source) : Type 0 where
   pub pieces : List Piece
   pub cut : FirstPieces bytes pieces
   pub read : IsFirstText pieces source
 
 -- the bytes are a first text
 abbrev pub IsFirst : List ℕ → Type 0
-IsFirst bytes = (source : Source) × Means bytes source
+IsFirst bytes = (source : Source) × IsTextOf bytes source
 
 abbrev pub id_of : Undefined → Id
 id_of Uninitialized = UninitVar
@@ -48,7 +48,8 @@ finding_of cause node = record {
   words = words_of cause node.text;
 }
 
--- the finding is that of the node of this number in this statement, at which the runs of the text are stuck
+-- the finding is that of the node of this number in this statement, at which the runs of the text
+-- are stuck
 pub record IsFindingAt (source : Source) (statement node : ℕ) (finding : Finding) : Type 0 where
   pub cause : Undefined
   pub stuck : IsStuck source statement node cause
@@ -62,12 +63,14 @@ FindsBy source Finished findings = findings ≡ []
 FindsBy source (Stuck statement node cause) findings =
     (finding : Finding) × IsFindingAt source statement node finding × (findings ≡ finding ∷ [])
 
--- the findings in a first text: none where its longest run comes to the end, else that of the node where it stops
+-- the findings in a first text: none where its longest run comes to the end, else that of the node
+-- where it stops
 abbrev pub Finds : Source → List Finding → Type 0
 Finds source findings = (end : RunEnd) × Ends source end × FindsBy source end findings
 
--- no run of the text that the bytes are makes the value of a finding's node, and a run comes to its statement
+-- no run of the text that the bytes are makes the value of a finding's node, and a run comes to its
+-- statement
 abbrev pub IsSound : List ℕ → Type 0
 IsSound bytes =
-    (source : Source) (statement node : ℕ) (finding : Finding) → Means bytes source
+    (source : Source) (statement node : ℕ) (finding : Finding) → IsTextOf bytes source
     → IsFindingAt source statement node finding → IsNeverPassed source statement node

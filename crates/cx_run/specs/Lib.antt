@@ -1,8 +1,10 @@
-pub mod Answers
+pub mod Limits
 pub mod Asking
+pub mod Calls
+pub mod Answers
 pub mod First
-pub mod Outcomes
-pub mod Reports
 pub mod Texts
-pub mod Words
+pub mod Reports
 pub mod Written
+pub mod Run
+pub mod Shapes

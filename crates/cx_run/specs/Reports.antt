@@ -1,6 +1,6 @@
 -- The written report: a cause, and the pieces that go to the two sinks.
 use Rattle.std.specs.Prelude.{◌≡◌, ℕ, List, [], ◌∷◌, ◌++◌, map, codes, MatchOption, ◌⊎◌}
-use Rattle.std.specs.List.{flat_map}
+use Rattle.std.specs.List.{AllZip, flat_map}
 use Rattle.cx_base.specs.declared.answers.Answer.{Answer}
 use Rattle.cx_base.specs.declared.answers.Answer.TheVariants.{Present, Absent, Folder, Unreadable, TooLarge}
 use Rattle.cx_base.specs.declared.answers.SeenEntry.{SeenEntry}
@@ -15,8 +15,8 @@ use Rattle.cx_run.specs.declared.report.ReportPiece.{ReportPiece}
 use Rattle.cx_run.specs.declared.report.UnitReport.{UnitReport}
 use Rattle.cx_run.specs.declared.report.Report.{Report}
 use Rattle.cx_first.specs.Tree.{Source}
-use Rattle.cx_run.specs.Asking.{source_of}
-use Rattle.cx_run.specs.First.{Finds, IsFirst, IsSound, Means}
+use Rattle.cx_run.specs.Asking.{source_path}
+use Rattle.cx_run.specs.First.{Finds, IsFirst, IsSound, IsTextOf}
 use Rattle.cx_run.specs.Texts.{finding_line}
 
 -- the line that tells which file is checked
@@ -35,7 +35,8 @@ read_fault path = record {
 
 -- the findings of a unit, by its answer
 abbrev pub AreFindings : List ℕ → Answer → List Finding → Type 0
-AreFindings path (Present bytes) findings = (source : Source) × Means bytes source × Finds source findings
+AreFindings path (Present bytes) findings =
+    (source : Source) × IsTextOf bytes source × Finds source findings
 AreFindings path Absent findings = ⊥
 AreFindings path (Folder entries) findings = ⊥
 AreFindings path Unreadable findings = findings ≡ read_fault path ∷ []
@@ -47,13 +48,6 @@ pub record IsUnitReport (entry : SeenEntry) (unit : UnitReport) : Type 0 where
   pub progress : unit.progress ≡ progress_line entry.path ∷ []
   pub findings : AreFindings entry.path entry.answer unit.findings
 
--- one report for each unit, in order
-abbrev pub AreUnitReports : List SeenEntry → List UnitReport → Type 0
-AreUnitReports [] [] = Unit {0}
-AreUnitReports [] (unit ∷ units) = ⊥
-AreUnitReports (entry ∷ entries) [] = ⊥
-AreUnitReports (entry ∷ entries) (unit ∷ units) = IsUnitReport entry unit × AreUnitReports entries units
-
 abbrev pub progress_piece : List ℕ → ReportPiece
 progress_piece line = record { sink = Out; bytes = line ++ codes "\n" }
 
@@ -64,43 +58,49 @@ finding_piece files finding = record { sink = Err; bytes = finding_line files fi
 abbrev pub unit_pieces : UnitReport → List ReportPiece
 unit_pieces unit = map progress_piece unit.progress ++ map (finding_piece unit.files) unit.findings
 
--- the pieces of all units, in order
-abbrev pub all_pieces : List UnitReport → List ReportPiece
-all_pieces units = flat_map unit_pieces units
-
 -- the one piece of a refusal
 abbrev pub refusal : List ℕ → List ReportPiece
-refusal text = record { sink = Err; bytes = codes "cppcheck: error: " ++ text ++ codes "\n" } ∷ []
+refusal text =
+    record { sink = Err; bytes = codes "cppcheck: error: " ++ text ++ codes "\n" } ∷ []
 
--- what the answer of the one path decides
-abbrev pub AnswerDecides : Answer → Cause → Type 0
-AnswerDecides (Present bytes) cause = (IsFirst bytes × (cause ≡ Done)) ⊎ (¬ IsFirst bytes × (cause ≡ NotBuilt))
-AnswerDecides Absent cause = cause ≡ NoInput
-AnswerDecides (Folder entries) cause = cause ≡ NotBuilt
-AnswerDecides Unreadable cause = cause ≡ Done
-AnswerDecides TooLarge cause = cause ≡ NotBuilt
+-- the cause that the answer of the one path decides
+abbrev pub IsCauseOfAnswer : Answer → Cause → Type 0
+IsCauseOfAnswer (Present bytes) cause =
+    (IsFirst bytes × (cause ≡ Done)) ⊎ (¬ IsFirst bytes × (cause ≡ NotBuilt))
+IsCauseOfAnswer Absent cause = cause ≡ NoInput
+IsCauseOfAnswer (Folder entries) cause = cause ≡ NotBuilt
+IsCauseOfAnswer Unreadable cause = cause ≡ Done
+IsCauseOfAnswer TooLarge cause = cause ≡ NotBuilt
 
-abbrev pub SeenDecides : List SeenEntry → Cause → Type 0
-SeenDecides [] cause = ⊥
-SeenDecides (entry ∷ []) cause = AnswerDecides entry.answer cause
-SeenDecides (entry ∷ other ∷ seen) cause = ⊥
+-- the cause that what was seen decides, where one path is asked
+abbrev pub IsCauseOfSeen : List SeenEntry → Cause → Type 0
+IsCauseOfSeen [] cause = ⊥
+IsCauseOfSeen (entry ∷ []) cause = IsCauseOfAnswer entry.answer cause
+IsCauseOfSeen (entry ∷ other ∷ seen) cause = ⊥
 
 -- the cause that the words and what was seen decide
-abbrev pub Decides : List (List ℕ) → List SeenEntry → Cause → Type 0
-Decides words seen cause = MatchOption (source_of words) (cause ≡ NotBuilt) (λ path. SeenDecides seen cause)
+abbrev pub IsCause : List (List ℕ) → List SeenEntry → Cause → Type 0
+IsCause words seen cause =
+    MatchOption (source_path words) (cause ≡ NotBuilt) (λ path. IsCauseOfSeen seen cause)
+
+-- the pieces of all units, those of one after those of another: each entry has its unit
+pub record ArePiecesOfUnits (seen : List SeenEntry) (pieces : List ReportPiece) : Type 0 where
+  pub units : List UnitReport
+  pub each : AllZip IsUnitReport seen units
+  pub joined : pieces ≡ flat_map unit_pieces units
 
 -- the pieces that belong to a cause: of Done those of the units, of a refusal its one piece
-abbrev pub HasPieces : Cause → List SeenEntry → List ReportPiece → Type 0
-HasPieces Done seen pieces = (units : List UnitReport) × AreUnitReports seen units × (pieces ≡ all_pieces units)
-HasPieces NoInput seen pieces = pieces ≡ refusal (codes "could not find any file to check.")
-HasPieces NotBuilt seen pieces = pieces ≡ refusal (codes "not built yet.")
-HasPieces (WriteFault sink) seen pieces = ⊥
-HasPieces NoMemory seen pieces = ⊥
+abbrev pub ArePieces : Cause → List SeenEntry → List ReportPiece → Type 0
+ArePieces Done seen pieces = ArePiecesOfUnits seen pieces
+ArePieces NoInput seen pieces = pieces ≡ refusal (codes "could not find any file to check.")
+ArePieces NotBuilt seen pieces = pieces ≡ refusal (codes "not built yet.")
+ArePieces (WriteFault sink) seen pieces = ⊥
+ArePieces NoMemory seen pieces = ⊥
 
 -- the written report of the words and of what was seen
 pub record IsReport (words : List (List ℕ)) (seen : List SeenEntry) (report : Report) : Type 0 where
-  pub cause : Decides words seen report.cause
-  pub pieces : HasPieces report.cause seen report.pieces
+  pub cause : IsCause words seen report.cause
+  pub pieces : ArePieces report.cause seen report.pieces
 
 -- the status with which the program ends
 abbrev pub status_of : Cause → ℕ
@@ -111,14 +111,12 @@ status_of (WriteFault sink) = 3
 status_of NoMemory = 4
 
 -- what is found in an answer is sound
-abbrev pub AnswerSound : Answer → Type 0
-AnswerSound (Present bytes) = IsSound bytes
-AnswerSound Absent = Unit {0}
-AnswerSound (Folder entries) = Unit {0}
-AnswerSound Unreadable = Unit {0}
-AnswerSound TooLarge = Unit {0}
+abbrev pub IsSoundAnswer : Answer → Type 0
+IsSoundAnswer (Present bytes) = IsSound bytes
+IsSoundAnswer Absent = Unit {0}
+IsSoundAnswer (Folder entries) = Unit {0}
+IsSoundAnswer Unreadable = Unit {0}
+IsSoundAnswer TooLarge = Unit {0}
 
--- what is found in each file that was seen is sound
-abbrev pub AllSound : List SeenEntry → Type 0
-AllSound [] = Unit {0}
-AllSound (entry ∷ seen) = AnswerSound entry.answer × AllSound seen
+abbrev pub IsSoundEntry : SeenEntry → Type 0
+IsSoundEntry entry = IsSoundAnswer entry.answer

@@ -1,7 +1,7 @@
 -- What the two sinks hold at the end.
-use Rattle.std.specs.Prelude.{◌≡◌, ℕ, ◌≤◌, List, [], ◌∷◌, ◌++◌, take, Option, ◌⊎◌}
+use Rattle.std.specs.Prelude.{◌≡◌, ℕ, List, [], ◌∷◌, ◌++◌, take, ◌⊎◌}
 use Rattle.cx_base.specs.Faults.{Rose}
-use Rattle.cx_base.specs.Outside.{Appends}
+use Rattle.cx_base.specs.Outside.{Appends, SinkState}
 use Rattle.cx_base.specs.declared.answers.SeenEntry.{SeenEntry}
 use Rattle.cx_run.specs.declared.report.Cause.{Cause}
 use Rattle.cx_run.specs.declared.report.Cause.TheVariants.{Done, NoInput, NotBuilt, WriteFault, NoMemory}
@@ -11,71 +11,85 @@ use Rattle.cx_run.specs.declared.report.ReportPiece.{ReportPiece}
 use Rattle.cx_run.specs.declared.report.Report.{Report}
 use Rattle.cx_run.specs.Reports.{IsReport}
 
--- what the two sinks hold, where they tell it
-pub record Held : Type 0 where
-  pub out : Option (List ℕ)
-  pub err : Option (List ℕ)
+-- the two sinks that a report is written to
+pub record Sinks : Type 0 where
+  pub out : SinkState
+  pub err : SinkState
 
--- how often calls of the two sinks failed
-pub record SinkFaults : Type 0 where
-  pub out : ℕ
-  pub err : ℕ
+abbrev pub sinks : SinkState → SinkState → Sinks
+sinks out err = record { out = out; err = err }
 
 -- a text, where it is for this sink
-abbrev pub part_for : SinkName → SinkName → List ℕ → List ℕ
-part_for Out Out bytes = bytes
-part_for Out Err bytes = []
-part_for Err Out bytes = []
-part_for Err Err bytes = bytes
+abbrev pub text_for : SinkName → SinkName → List ℕ → List ℕ
+text_for Out Out bytes = bytes
+text_for Out Err bytes = []
+text_for Err Out bytes = []
+text_for Err Err bytes = bytes
 
 -- the bytes of the pieces that go to a sink
 abbrev pub bytes_to : SinkName → List ReportPiece → List ℕ
 bytes_to sink [] = []
-bytes_to sink (piece ∷ pieces) = part_for sink piece.sink piece.bytes ++ bytes_to sink pieces
+bytes_to sink (piece ∷ pieces) = text_for sink piece.sink piece.bytes ++ bytes_to sink pieces
 
--- each sink took the bytes of its pieces, in order, behind what it held
-pub record Took (before after : Held) (pieces : List ReportPiece) : Type 0 where
+-- each sink took the bytes of its pieces, in order, after what it held
+pub record Took (before after : Sinks) (pieces : List ReportPiece) : Type 0 where
   pub out : Appends before.out after.out (bytes_to Out pieces)
   pub err : Appends before.err after.err (bytes_to Err pieces)
 
--- a front of the pieces: some of them whole, and of the next one, which goes to this sink, a part
-pub record CutAt (pieces front : List ReportPiece) (sink : SinkName) : Type 0 where
+-- a front of the pieces: some of them whole, and of the next one, which goes to this sink, its
+-- first bytes
+pub record IsFront (pieces front : List ReportPiece) (sink : SinkName) : Type 0 where
   pub whole : List ReportPiece
   pub next : ReportPiece
-  pub rest : List ReportPiece
-  pub part : ℕ
-  pub splits : pieces ≡ whole ++ next ∷ rest
-  pub cut : front ≡ whole ++ record next { bytes = take part next.bytes } ∷ []
+  pub after : List ReportPiece
+  pub count : ℕ
+  pub splits : pieces ≡ whole ++ next ∷ after
+  pub joins : front ≡ whole ++ record next { bytes = take count next.bytes } ∷ []
   pub goes : next.sink ≡ sink
 
--- a front of some report stands, cut in a piece for this sink
-abbrev pub IsCut : List (List ℕ) → List SeenEntry → Held → Held → SinkName → Type 0
-IsCut words seen before after sink =
-    (report : Report) × IsReport words seen report × (front : List ReportPiece) × CutAt report.pieces front sink × Took before after front
+-- the report of this cause is written whole
+pub record IsWhole (words : List (List ℕ)) (seen : List SeenEntry) (before after : Sinks)
+    (cause : Cause) : Type 0 where
+  pub report : Report
+  pub reports : IsReport words seen report
+  pub because : report.cause ≡ cause
+  pub took : Took before after report.pieces
 
--- the report stands whole where the cause is its own; after a fault a front of it, cut in a piece
--- for that sink; where memory ran out such a front or nothing
-abbrev pub EndsBy : List (List ℕ) → List SeenEntry → Held → Held → Cause → Type 0
-EndsBy words seen before after Done = (report : Report) × IsReport words seen report × (Done ≡ report.cause) × Took before after report.pieces
-EndsBy words seen before after NoInput = (report : Report) × IsReport words seen report × (NoInput ≡ report.cause) × Took before after report.pieces
-EndsBy words seen before after NotBuilt = (report : Report) × IsReport words seen report × (NotBuilt ≡ report.cause) × Took before after report.pieces
-EndsBy words seen before after (WriteFault sink) = IsCut words seen before after sink
-EndsBy words seen before after NoMemory = Took before after [] ⊎ ((sink : SinkName) × IsCut words seen before after sink)
+-- a front of a report is written: it ends in a piece for this sink
+pub record IsInterrupted (words : List (List ℕ)) (seen : List SeenEntry) (before after : Sinks)
+    (sink : SinkName) : Type 0 where
+  pub report : Report
+  pub reports : IsReport words seen report
+  pub front : List ReportPiece
+  pub begins : IsFront report.pieces front sink
+  pub took : Took before after front
 
--- the count of this sink rose
-abbrev pub SinkRose : SinkFaults → SinkFaults → SinkName → Type 0
-SinkRose before after Out = Rose before.out after.out
-SinkRose before after Err = Rose before.err after.err
+-- what is written, by the cause: after a fault of a sink a front that ends there; where memory ran
+-- out nothing, or such a front; else the report whole
+abbrev pub IsWritten : List (List ℕ) → List SeenEntry → Sinks → Sinks → Cause → Type 0
+IsWritten words seen before after Done = IsWhole words seen before after Done
+IsWritten words seen before after NoInput = IsWhole words seen before after NoInput
+IsWritten words seen before after NotBuilt = IsWhole words seen before after NotBuilt
+IsWritten words seen before after (WriteFault sink) = IsInterrupted words seen before after sink
+IsWritten words seen before after NoMemory =
+    Took before after [] ⊎ ((sink : SinkName) × IsInterrupted words seen before after sink)
 
--- a fault is told only where that sink's count rose
-abbrev pub FaultHasCause : SinkFaults → SinkFaults → Cause → Type 0
-FaultHasCause before after Done = Unit {0}
-FaultHasCause before after NoInput = Unit {0}
-FaultHasCause before after NotBuilt = Unit {0}
-FaultHasCause before after (WriteFault sink) = SinkRose before after sink
-FaultHasCause before after NoMemory = Unit {0}
+-- both counts of faults are as they were
+abbrev pub IsFaultless : Sinks → Sinks → Type 0
+IsFaultless before after =
+    (after.out.faults ≡ before.out.faults) × (after.err.faults ≡ before.err.faults)
 
--- no count fell
-pub record FaultsLater (before after : SinkFaults) : Type 0 where
-  pub out : before.out ≤ after.out
-  pub err : before.err ≤ after.err
+-- the count of this sink rose, and the other one is as it was
+abbrev pub FailedAlone : SinkName → Sinks → Sinks → Type 0
+FailedAlone Out before after =
+    Rose before.out.faults after.out.faults × (after.err.faults ≡ before.err.faults)
+FailedAlone Err before after =
+    (after.out.faults ≡ before.out.faults) × Rose before.err.faults after.err.faults
+
+-- the counts of the sinks, by the cause
+abbrev pub HasFaultsOf : Cause → Sinks → Sinks → Type 0
+HasFaultsOf Done before after = IsFaultless before after
+HasFaultsOf NoInput before after = IsFaultless before after
+HasFaultsOf NotBuilt before after = IsFaultless before after
+HasFaultsOf (WriteFault sink) before after = FailedAlone sink before after
+HasFaultsOf NoMemory before after = IsFaultless before after

@@ -2,7 +2,8 @@
 ghost use Rattle.std.specs.Prelude.{◌≡◌, ◌<◌, [], ◌∷◌, length, IfOk};
 ghost use Rattle.cx_run.specs.Reports.{progress_line, read_fault};
 ghost use Rattle.cx_run.specs.Answers.{IsBelow};
-ghost use Rattle.cx_run.specs.Outcomes.{OutcomeIs};
+ghost use Rattle.cx_run.specs.Shapes.Outcomes.{IsOutcome};
+ghost use Rattle.cx_lex.specs.Lines.{place_limit};
 
 use crate::finding::findings_in;
 use crate::report::UnitReport;
@@ -52,7 +53,11 @@ fn read_fault(alloc: Global, path: &Path) -> Result<Finding, NoMemory>
 }
 
 fn unit_report(alloc: Global, path: &Path, findings: List<Finding>) -> Result<UnitReport, NoMemory>
-    ensures { IfOk result (λ unit. unit ≡ record { files = path.now ∷ []; progress = progress_line path.now ∷ []; findings = findings }) }
+    ensures { IfOk result (λ unit. unit ≡ record {
+      files = path.now ∷ [];
+      progress = progress_line path.now ∷ [];
+      findings = findings;
+    }) }
 {
     let mut files = List::new(alloc);
     let file = path.copy()?;
@@ -68,8 +73,8 @@ fn unit_report(alloc: Global, path: &Path, findings: List<Finding>) -> Result<Un
 }
 
 fn outcome_of_bytes(alloc: Global, path: &Path, bytes: &Bytes) -> Result<Outcome, NoMemory>
-    requires { length bytes.now < 4294967295 }
-    ensures { IfOk result (OutcomeIs path.now (Answer.Present bytes.now)) }
+    requires { length bytes.now < place_limit }
+    ensures { IfOk result (IsOutcome path.now (Answer.Present bytes.now)) }
 {
     match findings_in(alloc, bytes)? {
         Some(findings) => {
@@ -81,7 +86,7 @@ fn outcome_of_bytes(alloc: Global, path: &Path, bytes: &Bytes) -> Result<Outcome
 }
 
 fn outcome_of_fault(alloc: Global, path: &Path) -> Result<Outcome, NoMemory>
-    ensures { IfOk result (OutcomeIs path.now Answer.Unreadable) }
+    ensures { IfOk result (IsOutcome path.now Answer.Unreadable) }
 {
     let mut findings = List::new(alloc);
     let fault = read_fault(alloc, path)?;
@@ -92,8 +97,8 @@ fn outcome_of_fault(alloc: Global, path: &Path) -> Result<Outcome, NoMemory>
 
 /// What an answer comes to.
 pub(crate) fn outcome_of(alloc: Global, entry: &SeenEntry) -> Result<Outcome, NoMemory>
-    requires { IsBelow 4294967295 entry.now.answer }
-    ensures { IfOk result (OutcomeIs entry.now.path entry.now.answer) }
+    requires { IsBelow place_limit entry.now.answer }
+    ensures { IfOk result (IsOutcome entry.now.path entry.now.answer) }
 {
     match &entry.answer {
         Answer::Present(bytes) => outcome_of_bytes(alloc, &entry.path, bytes),

@@ -1,9 +1,10 @@
 //! What is found in a first text.
 ghost use Rattle.std.specs.Prelude.{◌≡◌, ◌<◌, [], ◌∷◌, length, IfOk};
+ghost use Rattle.cx_lex.specs.Lines.{place_limit};
 ghost use Rattle.cx_first.specs.Runs.{IsNumbered, IsStuck};
 ghost use Rattle.cx_first.specs.Tree.{source_of};
 ghost use Rattle.cx_run.specs.First.{FindsBy, Finds, finding_of, id_of, words_of};
-ghost use Rattle.cx_run.specs.Outcomes.{SomeIfFirst, SomeIfRead};
+ghost use Rattle.cx_run.specs.Shapes.Outcomes.{SomeIfFirst, SomeIfRead};
 
 use cx_base::{Bytes, Finding, Id, List, NoMemory, Severity, Text, Word};
 use cx_first::{FirstText, Node, RunEnd, Undefined, node_at, read, run};
@@ -84,7 +85,7 @@ fn text_findings(alloc: Global, text: &FirstText) -> Result<List<Finding>, NoMem
 }
 
 fn findings_of(alloc: Global, pieces: &[Piece]) -> Result<Option<List<Finding>>, NoMemory>
-    requires { length pieces.now < 4294967295 }
+    requires { length pieces.now < place_limit }
     ensures { IfOk result (SomeIfRead pieces.now) }
 {
     match read(alloc, pieces)? {
@@ -98,7 +99,7 @@ fn findings_of(alloc: Global, pieces: &[Piece]) -> Result<Option<List<Finding>>,
 
 /// The findings in the bytes, exactly where they are a first text.
 pub(crate) fn findings_in(alloc: Global, bytes: &Bytes) -> Result<Option<List<Finding>>, NoMemory>
-    requires { length bytes.now < 4294967295 }
+    requires { length bytes.now < place_limit }
     ensures { IfOk result (SomeIfFirst bytes.now) }
 {
     match lex_first(alloc, bytes.as_slice())? {

@@ -1,13 +1,14 @@
 //! The pieces of a report.
-ghost use Rattle.std.specs.Prelude.{◌≡◌, ◌++◌, [], ◌∷◌, map, codes, IfOk, OnOk};
-ghost use Rattle.cx_run.specs.Answers.{AllBelow, IsBelow};
+ghost use Rattle.std.specs.Prelude.{◌≡◌, ◌++◌, [], ◌∷◌, map, codes, All, IfOk, OnOk};
+ghost use Rattle.cx_run.specs.Answers.{IsBelow, IsEntryBelow};
 ghost use Rattle.cx_run.specs.Asking.{IsWholeAsking};
-ghost use Rattle.cx_run.specs.Reports.{HasPieces, IsReport, SeenDecides, finding_piece, progress_piece, refusal, unit_pieces};
+ghost use Rattle.cx_lex.specs.Lines.{place_limit};
+ghost use Rattle.cx_run.specs.Reports.{ArePieces, IsCauseOfSeen, IsReport, finding_piece, progress_piece, refusal, unit_pieces};
 
 use crate::deciding::{Outcome, outcome_of};
 use crate::report::{Cause, Report, ReportPiece, SinkName, UnitReport};
 use crate::texts::finding_line;
-use crate::words::source_of;
+use crate::words::source_path;
 use cx_base::{Bytes, Finding, List, NoMemory, Path, SeenEntry, Text};
 use std::alloc::Global;
 
@@ -84,7 +85,10 @@ fn refusal(alloc: Global, text: &[u8]) -> Result<List<ReportPiece>, NoMemory>
 }
 
 fn no_input(alloc: Global) -> Result<Report, NoMemory>
-    ensures { IfOk result (λ report. report ≡ record { cause = Cause.NoInput; pieces = refusal (codes "could not find any file to check.") }) }
+    ensures { IfOk result (λ report. report ≡ record {
+      cause = Cause.NoInput;
+      pieces = refusal (codes "could not find any file to check.");
+    }) }
 {
     let pieces = refusal(alloc, b"could not find any file to check.")?;
     Ok(Report {
@@ -94,7 +98,10 @@ fn no_input(alloc: Global) -> Result<Report, NoMemory>
 }
 
 fn not_built(alloc: Global) -> Result<Report, NoMemory>
-    ensures { IfOk result (λ report. report ≡ record { cause = Cause.NotBuilt; pieces = refusal (codes "not built yet.") }) }
+    ensures { IfOk result (λ report. report ≡ record {
+      cause = Cause.NotBuilt;
+      pieces = refusal (codes "not built yet.");
+    }) }
 {
     let pieces = refusal(alloc, b"not built yet.")?;
     Ok(Report {
@@ -105,8 +112,9 @@ fn not_built(alloc: Global) -> Result<Report, NoMemory>
 
 #[tactic(auto, using(crate::proofs::UnitLaws::one_unit))]
 fn report_of_entry(alloc: Global, entry: &SeenEntry) -> Result<Report, NoMemory>
-    requires { IsBelow 4294967295 entry.now.answer }
-    ensures { IfOk result (λ report. SeenDecides (entry.now ∷ []) report.cause × HasPieces report.cause (entry.now ∷ []) report.pieces) }
+    requires { IsBelow place_limit entry.now.answer }
+    ensures { IfOk result (λ report. IsCauseOfSeen (entry.now ∷ []) report.cause
+        × ArePieces report.cause (entry.now ∷ []) report.pieces) }
 {
     match outcome_of(alloc, entry)? {
         Outcome::Unit(unit) => {
@@ -124,10 +132,10 @@ fn report_of_entry(alloc: Global, entry: &SeenEntry) -> Result<Report, NoMemory>
 /// The written report of the words and of all that they asked.
 pub(crate) fn report(alloc: Global, words: &[Path], seen: &[SeenEntry]) -> Result<Report, NoMemory>
     requires asked { IsWholeAsking words.now seen.now }
-    requires below { AllBelow 4294967295 seen.now }
+    requires below { All (IsEntryBelow place_limit) seen.now }
     ensures { IfOk result (IsReport words.now seen.now) }
 {
-    match (source_of(words), seen) {
+    match (source_path(words), seen) {
         (Some(_), [entry]) => report_of_entry(alloc, entry),
         _ => not_built(alloc),
     }

@@ -1,15 +1,17 @@
 //! The top call.
-ghost use Rattle.std.specs.Prelude.{◌≡◌, ◌<◌, ◌≢◌, ◌⊎◌, [], IsTrue};
-ghost use Rattle.cx_run.specs.Answers.{AllBelow, AreAnswers};
+ghost use Rattle.std.specs.Prelude.{◌≡◌, ◌≤◌, All, IsTrue};
+ghost use Rattle.cx_run.specs.Answers.{IsEntryBelow};
 ghost use Rattle.cx_run.specs.Asking.{IsWholeAsking};
-ghost use Rattle.cx_run.specs.Reports.{AllSound, status_of};
-ghost use Rattle.cx_run.specs.Words.{are_in_bounds};
-ghost use Rattle.cx_run.specs.Written.{EndsBy, FaultHasCause, Took};
+ghost use Rattle.cx_run.specs.Limits.{are_in_bounds, most_read};
+ghost use Rattle.cx_run.specs.Reports.{status_of};
+ghost use Rattle.cx_run.specs.Run.{IsRun};
+ghost use Rattle.cx_lex.specs.Lines.{place_limit};
+ghost use Rattle.cx_run.specs.Written.{HasFaultsOf, IsWritten, sinks};
 
 use crate::asking::ask;
 use crate::pieces::report;
 use crate::report::Cause;
-use crate::writing::{Stop, write_pieces};
+use crate::writing::write_pieces;
 use cx_base::{Files, List, Lost, NoMemory, Path, Seen, Sink};
 use std::alloc::Global;
 
@@ -35,22 +37,23 @@ fn tell<O: Sink, E: Sink>(
     err: &mut E,
 ) -> Cause
     requires asked { IsWholeAsking words.now seen.now }
-    requires below { AllBelow 4294967295 seen.now }
-    ensures written { EndsBy words.now seen.now (record { out = O.holds out.old; err = E.holds err.old }) (record { out = O.holds out.new; err = E.holds err.new }) result }
-    ensures faults { FaultHasCause (record { out = O.faults out.old; err = E.faults err.old }) (record { out = O.faults out.new; err = E.faults err.new }) result }
+    requires below { All (IsEntryBelow place_limit) seen.now }
+    ensures written { IsWritten words.now seen.now
+        (sinks (O.state out.old) (E.state err.old))
+        (sinks (O.state out.new) (E.state err.new)) result }
+    ensures faults { HasFaultsOf result
+        (sinks (O.state out.old) (E.state err.old))
+        (sinks (O.state out.new) (E.state err.new)) }
 {
     let Ok(report) = report(alloc, words, seen.as_slice()) else {
         return Cause::NoMemory;
     };
     match write_pieces(report.pieces.as_slice(), out, err) {
         Ok(()) => report.cause,
-        Err(
-            Stop {
-                sink,
-                lost: Lost::Failed,
-            },
-        ) => Cause::WriteFault { sink },
-        Err(_) => Cause::NoMemory,
+        Err(stop) => match stop.lost {
+            Lost::Failed => Cause::WriteFault { sink: stop.sink },
+            Lost::NoMemory => Cause::NoMemory,
+        },
     }
 }
 
@@ -66,7 +69,6 @@ fn status_of(cause: Cause) -> u8
 }
 
 // `run`, with the most bytes to read of a file.
-#[tactic(auto, using(crate::proofs::SoundLaws::all_sound, crate::proofs::SoundLaws::all_below))]
 fn run_with<F: Files, O: Sink, E: Sink>(
     alloc: Global,
     words: &[Path],
@@ -75,22 +77,10 @@ fn run_with<F: Files, O: Sink, E: Sink>(
     out: &mut O,
     err: &mut E,
 ) -> Ended
-    requires { limit < 4294967296 }
-    ensures asked { result.cause ≢ Cause.NoMemory → IsWholeAsking words.now result.seen }
-    ensures answers { result.cause ≢ Cause.NoMemory → AreAnswers limit
-        (record { told = F.told files.old; faults = F.faults files.old })
-        (record { told = F.told files.new; faults = F.faults files.new }) result.seen }
-    ensures written { EndsBy words.now result.seen
-        (record { out = O.holds out.old; err = E.holds err.old })
-        (record { out = O.holds out.new; err = E.holds err.new }) result.cause }
-    ensures nothing { IsWholeAsking words.now result.seen ⊎ Took
-        (record { out = O.holds out.old; err = E.holds err.old })
-        (record { out = O.holds out.new; err = E.holds err.new }) [] }
-    ensures faults { FaultHasCause
-        (record { out = O.faults out.old; err = E.faults err.old })
-        (record { out = O.faults out.new; err = E.faults err.new }) result.cause }
-    ensures status { result.status ≡ status_of result.cause }
-    ensures sound { AllSound result.seen }
+    requires { limit ≤ place_limit }
+    ensures { IsRun limit words.now (F.state files.old) (F.state files.new)
+        (sinks (O.state out.old) (E.state err.old))
+        (sinks (O.state out.new) (E.state err.new)) result }
 {
     match ask(alloc, words, limit, files) {
         Ok(seen) => {
@@ -112,18 +102,28 @@ fn run_with<F: Files, O: Sink, E: Sink>(
 /// Checks what the words of the command line ask for: asks the files, and writes the report of the
 /// words and of what was seen to the two sinks.
 ///
-/// * **asked**, **answers**: unless memory ran out, `seen` is a whole asking of the words, and each
-///   answer is what the files hold, where they tell that. The list of failed calls grows by exactly
-///   the paths that could not be read. A file of 4,194,305 bytes or more is too large.
+/// The contract is `IsRun`, whose fields say:
+///
+/// * **asked**: unless memory ran out, `seen` is all that the words ask, each path once and in
+///   order.
+/// * **answers**: unless memory ran out, each answer is what the files hold, where they tell that,
+///   and was got by the calls that give it: by `list`, and where the path is no folder by one
+///   `read` of at most 4,194,305 bytes. A file of as many bytes or more is too large.
+/// * **reads**: whatever the cause, the files were asked for what the words ask and nothing else;
+///   where memory ran out for a front of that. Their count of faults is as it was where no call
+///   failed, and else rose by at least as many as failed.
 /// * **written**: cause and pieces are those of the report of the words and of `seen`, and each
-///   sink holds its old bytes and then its pieces. After a `WriteFault` or `NoMemory` a front of the
-///   pieces stands.
-/// * **nothing**: where `seen` is no whole asking, nothing was written.
-/// * **faults**: a `WriteFault` comes only where the count of that sink rose.
+///   sink holds its old bytes and then its pieces. After a `WriteFault` a front of the pieces is
+///   written, which ends in a piece for that sink; after `NoMemory` such a front, or nothing.
+/// * **nothing**: unless `seen` is all that the words ask, with the answers that the files gave,
+///   nothing is written.
+/// * **faults**: after a `WriteFault` the count of that sink rose, and that of the other one is as
+///   it was; with any other cause both are as they were.
 /// * **status**: 0, 1, 3 or 4, by the cause.
 /// * **sound**: for each finding of a division by zero, an overflow or an uninitialized read in a
 ///   file of `seen`: no run of the text that the file is makes the value of the finding's node, and
-///   a run comes to its statement.
+///   a run comes to its statement. This is a law of every file, which no body can break; that the
+///   findings which are written are those of the files is *written* with *nothing*.
 pub fn run<F: Files, O: Sink, E: Sink>(
     alloc: Global,
     words: &[Path],
@@ -132,21 +132,9 @@ pub fn run<F: Files, O: Sink, E: Sink>(
     err: &mut E,
 ) -> Ended
     requires { IsTrue (are_in_bounds words.now) }
-    ensures asked { result.cause ≢ Cause.NoMemory → IsWholeAsking words.now result.seen }
-    ensures answers { result.cause ≢ Cause.NoMemory → AreAnswers MOST_READ
-        (record { told = F.told files.old; faults = F.faults files.old })
-        (record { told = F.told files.new; faults = F.faults files.new }) result.seen }
-    ensures written { EndsBy words.now result.seen
-        (record { out = O.holds out.old; err = E.holds err.old })
-        (record { out = O.holds out.new; err = E.holds err.new }) result.cause }
-    ensures nothing { IsWholeAsking words.now result.seen ⊎ Took
-        (record { out = O.holds out.old; err = E.holds err.old })
-        (record { out = O.holds out.new; err = E.holds err.new }) [] }
-    ensures faults { FaultHasCause
-        (record { out = O.faults out.old; err = E.faults err.old })
-        (record { out = O.faults out.new; err = E.faults err.new }) result.cause }
-    ensures status { result.status ≡ status_of result.cause }
-    ensures sound { AllSound result.seen }
+    ensures { IsRun most_read words.now (F.state files.old) (F.state files.new)
+        (sinks (O.state out.old) (E.state err.old))
+        (sinks (O.state out.new) (E.state err.new)) result }
 {
     run_with(alloc, words, MOST_READ, files, out, err)
 }

@@ -5,9 +5,10 @@ ghost use Rattle.cx_run.specs.Texts.{finding_line, first_word, message, place_in
 use cx_base::{Bytes, Finding, Id, NoMemory, Path, Place, Word};
 use std::alloc::Global;
 
-// The line and column of a place, behind its file.
+// The line and column of a place, after its file.
 fn push_line_and_column(line: &mut Bytes, place: Place) -> Result<(), NoMemory>
-    ensures { OnOk result (line.new ≡ line.old ++ codes ":" ++ decimal place.line ++ codes ":" ++ decimal place.column) }
+    ensures { OnOk result (line.new
+        ≡ line.old ++ codes ":" ++ decimal place.line ++ codes ":" ++ decimal place.column) }
 {
     line.push_all(b":")?;
     line.push_number(place.line)?;
@@ -52,7 +53,8 @@ fn push_about(line: &mut Bytes, front: &[u8], words: &[Word]) -> Result<(), NoMe
 }
 
 fn push_overflow(line: &mut Bytes, words: &[Word]) -> Result<(), NoMemory>
-    ensures { OnOk result (line.new ≡ line.old ++ (codes "Signed integer overflow for expression '" ++ first_word words.now ++ codes "'.")) }
+    ensures { OnOk result (line.new ≡ line.old ++ (
+        codes "Signed integer overflow for expression '" ++ first_word words.now ++ codes "'.")) }
 {
     push_about(line, b"Signed integer overflow for expression '", words)?;
     line.push_all(b"'.")?;
@@ -71,7 +73,7 @@ fn push_message(line: &mut Bytes, id: Id, words: &[Word]) -> Result<(), NoMemory
     }
 }
 
-/// The line of a finding, with the newline behind it.
+/// The line of a finding, with a newline after it.
 pub(crate) fn finding_line(
     alloc: Global,
     files: &[Path],

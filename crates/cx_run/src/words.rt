@@ -1,10 +1,13 @@
 //! The words of the command line.
 ghost use Rattle.std.specs.Prelude.{◌≡◌, option_copied};
 ghost use Rattle.std.specs.List.{list_all};
-ghost use Rattle.cx_run.specs.Asking.{is_name_byte, is_source_name, source_of};
-ghost use Rattle.cx_run.specs.Words.{are_in_bounds, is_in_bounds};
+ghost use Rattle.cx_run.specs.Asking.{is_name_byte, is_source_name, source_path};
+ghost use Rattle.cx_run.specs.Limits.{are_in_bounds, is_in_bounds};
 
 use cx_base::Path;
+
+/// The most words, and the most bytes of a word.
+const MOST_WORDS: usize = 4_294_967_294;
 
 fn is_name_byte(b: u8) -> bool
     ensures { result ≡ is_name_byte b }
@@ -25,8 +28,8 @@ fn is_source_name(word: &[u8]) -> bool
 }
 
 /// The path of the one source that the words name, where they are one such word.
-pub(crate) fn source_of(words: &[Path]) -> Option<&Path>
-    ensures { option_copied result ≡ source_of words.now }
+pub(crate) fn source_path(words: &[Path]) -> Option<&Path>
+    ensures { option_copied result ≡ source_path words.now }
 {
     match words {
         [word] if is_source_name(word.as_bytes()) => Some(word),
@@ -37,7 +40,7 @@ pub(crate) fn source_of(words: &[Path]) -> Option<&Path>
 fn is_in_bounds(word: &Path) -> bool
     ensures { result ≡ is_in_bounds word.now }
 {
-    word.len() <= 4_294_967_294
+    word.len() <= MOST_WORDS
 }
 
 fn each_is_in_bounds(words: &[Path]) -> bool
@@ -51,5 +54,5 @@ fn each_is_in_bounds(words: &[Path]) -> bool
 pub fn are_in_bounds(words: &[Path]) -> bool
     ensures { result ≡ are_in_bounds words.now }
 {
-    words.len() <= 4_294_967_294 && each_is_in_bounds(words)
+    words.len() <= MOST_WORDS && each_is_in_bounds(words)
 }

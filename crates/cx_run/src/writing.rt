@@ -1,7 +1,8 @@
 //! The writing of a report to the two sinks.
 ghost use Rattle.std.specs.Prelude.{◌≡◌, ℕ, List as Items, [], ◌∷◌, take, OnOk, OnErr, IfErr};
 ghost use Rattle.cx_run.specs.declared.report.ReportPiece.{ReportPiece as APiece};
-ghost use Rattle.cx_run.specs.Written.{CutAt, FaultsLater, SinkRose, Took};
+ghost use Rattle.cx_run.specs.Written.{IsFaultless, IsFront, Took, sinks};
+ghost use Rattle.cx_run.specs.Shapes.Stops.{HasFaultsOfStop, TookFirst, TookFront};
 
 use crate::report::{ReportPiece, SinkName};
 use cx_base::{Lost, Sink, write_whole};
@@ -15,11 +16,19 @@ pub(crate) struct Stop {
 
 // Writes a piece to its sink.
 fn write_piece<O: Sink, E: Sink>(piece: &ReportPiece, out: &mut O, err: &mut E) -> Result<(), Stop>
-    ensures whole { OnOk result (Took (record { out = O.holds out.old; err = E.holds err.old }) (record { out = O.holds out.new; err = E.holds err.new }) (piece.now ∷ [])) }
-    ensures part { OnErr result ((n : ℕ) × Took (record { out = O.holds out.old; err = E.holds err.old }) (record { out = O.holds out.new; err = E.holds err.new }) (record piece.now { bytes = take n piece.now.bytes } ∷ [])) }
+    ensures whole { OnOk result (Took
+        (sinks (O.state out.old) (E.state err.old))
+        (sinks (O.state out.new) (E.state err.new)) (piece.now ∷ [])) }
+    ensures front { OnErr result (TookFirst
+        (sinks (O.state out.old) (E.state err.old))
+        (sinks (O.state out.new) (E.state err.new)) piece.now) }
     ensures goes { IfErr result (λ stop. stop.sink ≡ piece.now.sink) }
-    ensures later { FaultsLater (record { out = O.faults out.old; err = E.faults err.old }) (record { out = O.faults out.new; err = E.faults err.new }) }
-    ensures rose { IfErr result (λ stop. stop.lost ≡ Lost.Failed → SinkRose (record { out = O.faults out.old; err = E.faults err.old }) (record { out = O.faults out.new; err = E.faults err.new }) stop.sink) }
+    ensures faultless { OnOk result (IsFaultless
+        (sinks (O.state out.old) (E.state err.old))
+        (sinks (O.state out.new) (E.state err.new))) }
+    ensures faults { IfErr result (λ stop. HasFaultsOfStop stop.sink stop.lost
+        (sinks (O.state out.old) (E.state err.old))
+        (sinks (O.state out.new) (E.state err.new))) }
 {
     match piece.sink {
         SinkName::Out => match write_whole(out, piece.bytes.as_slice()) {
@@ -45,9 +54,18 @@ pub(crate) fn write_pieces<O: Sink, E: Sink>(
     out: &mut O,
     err: &mut E,
 ) -> Result<(), Stop>
-    ensures whole { OnOk result (Took (record { out = O.holds out.old; err = E.holds err.old }) (record { out = O.holds out.new; err = E.holds err.new }) pieces.now) }
-    ensures cut { IfErr result (λ stop. (front : Items APiece) × CutAt pieces.now front stop.sink × Took (record { out = O.holds out.old; err = E.holds err.old }) (record { out = O.holds out.new; err = E.holds err.new }) front) }
-    ensures rose { IfErr result (λ stop. stop.lost ≡ Lost.Failed → SinkRose (record { out = O.faults out.old; err = E.faults err.old }) (record { out = O.faults out.new; err = E.faults err.new }) stop.sink) }
+    ensures whole { OnOk result (Took
+        (sinks (O.state out.old) (E.state err.old))
+        (sinks (O.state out.new) (E.state err.new)) pieces.now) }
+    ensures front { IfErr result (λ stop. TookFront
+        (sinks (O.state out.old) (E.state err.old))
+        (sinks (O.state out.new) (E.state err.new)) pieces.now stop.sink) }
+    ensures faultless { OnOk result (IsFaultless
+        (sinks (O.state out.old) (E.state err.old))
+        (sinks (O.state out.new) (E.state err.new))) }
+    ensures faults { IfErr result (λ stop. HasFaultsOfStop stop.sink stop.lost
+        (sinks (O.state out.old) (E.state err.old))
+        (sinks (O.state out.new) (E.state err.new))) }
 {
     for piece in pieces {
         if let Err(stop) = write_piece(piece, out, err) {

@@ -1,4 +1,5 @@
--- What an answer comes to.
+-- What an answer comes to, in the code's own steps: joined to `IsCauseOfSeen` and `ArePieces` of
+-- Reports by `report_of_entry`.
 use Rattle.std.specs.Prelude.{ℕ, List, Option, MatchOption}
 use Rattle.cx_base.specs.declared.answers.Answer.{Answer}
 use Rattle.cx_base.specs.declared.finding.Finding.{Finding}
@@ -8,13 +9,14 @@ use Rattle.cx_run.specs.declared.report.Cause.TheVariants.{Done, NoInput, NotBui
 use Rattle.cx_lex.specs.declared.piece.Piece.{Piece}
 use Rattle.cx_first.specs.Grammar.{IsFirstText}
 use Rattle.cx_first.specs.Tree.{Source}
-use Rattle.cx_run.specs.First.{Finds, IsFirst, Means}
-use Rattle.cx_run.specs.Reports.{AnswerDecides, IsUnitReport}
+use Rattle.cx_run.specs.First.{Finds, IsFirst, IsTextOf}
+use Rattle.cx_run.specs.Reports.{IsCauseOfAnswer, IsUnitReport}
 
 -- the findings in the bytes, exactly where they are a first text
 abbrev pub SomeIfFirst : List ℕ → Option (List Finding) → Type 0
 SomeIfFirst bytes found =
-    MatchOption found (¬ IsFirst bytes) (λ findings. (source : Source) × Means bytes source × Finds source findings)
+    MatchOption found (¬ IsFirst bytes)
+    (λ findings. (source : Source) × IsTextOf bytes source × Finds source findings)
 
 -- the findings in the text that the pieces are, exactly where they are one
 abbrev pub SomeIfRead : List Piece → Option (List Finding) → Type 0
@@ -23,7 +25,8 @@ SomeIfRead pieces found =
     (λ findings. (source : Source) × IsFirstText pieces source × Finds source findings)
 
 -- an outcome is what the answer decides, and its unit is reported
-abbrev pub OutcomeIs : List ℕ → Answer → Outcome → Type 0
-OutcomeIs path answer (A_unit unit) = AnswerDecides answer Done × IsUnitReport (record { path = path; answer = answer }) unit
-OutcomeIs path answer No_input = AnswerDecides answer NoInput
-OutcomeIs path answer Not_built = AnswerDecides answer NotBuilt
+abbrev pub IsOutcome : List ℕ → Answer → Outcome → Type 0
+IsOutcome path answer (A_unit unit) =
+    IsCauseOfAnswer answer Done × IsUnitReport (record { path = path; answer = answer }) unit
+IsOutcome path answer No_input = IsCauseOfAnswer answer NoInput
+IsOutcome path answer Not_built = IsCauseOfAnswer answer NotBuilt
