@@ -9,11 +9,11 @@ use Rattle.cx_base.specs.Folders.{is_slash}
 use Rattle.cx_base.specs.Shapes.Simple.{is_plain, are_reduced, has_simple_form}
 use Rattle.cx_base.specs.Simple.{is_parent, is_step, before_others, reduced, simple_components, relative_path, is_rooted, simple_path, is_simple}
 
-and_parts : (a b : Bool) → (a && b) ≡ true → (a ≡ true) × (b ≡ true)
+pub and_parts : (a b : Bool) → (a && b) ≡ true → (a ≡ true) × (b ≡ true)
 and_parts true b h = (refl, h)
 and_parts false b h = absurd (cc)
 
-and_both : (a b : Bool) → a ≡ true → b ≡ true → (a && b) ≡ true
+pub and_both : (a b : Bool) → a ≡ true → b ≡ true → (a && b) ≡ true
 and_both true b e h = h
 and_both false b e h = absurd (cc)
 
@@ -35,19 +35,19 @@ same_tests false true f g = g refl
 same_tests false false f g = refl
 
 -- a fact of each component
-Each : (List ℕ → Type 0) → List (List ℕ) → Type 0
+pub Each : (List ℕ → Type 0) → List (List ℕ) → Type 0
 Each P [] = Unit {0}
 Each P (first ∷ rest) = P first × Each P rest
 
-IsStep : List ℕ → Type 0
+pub IsStep : List ℕ → Type 0
 IsStep component = is_step component ≡ true
 
-HasNoSlash : List ℕ → Type 0
+pub HasNoSlash : List ℕ → Type 0
 HasNoSlash [] = Unit {0}
 HasNoSlash (b ∷ bs) = (is_slash b ≡ false) × HasNoSlash bs
 
 -- what is not cancelled
-parent_stays : (component : List ℕ) (others : List (List ℕ)) → is_parent component ≡ true
+pub parent_stays : (component : List ℕ) (others : List (List ℕ)) → is_parent component ≡ true
     → before_others component others ≡ component ∷ others
 parent_stays component [] e = refl
 parent_stays component (next ∷ others) e =
@@ -70,7 +70,7 @@ plain_same (c ∷ d ∷ ds) h =
     ∙ next_stays c d ds (not_true (is_parent d) (and_parts (is_step d) (not (is_parent d)) plain).1)
 
 -- components of the simple form lose nothing
-reduced_same : (cs : List (List ℕ)) → are_reduced cs ≡ true → reduced cs ≡ cs
+pub reduced_same : (cs : List (List ℕ)) → are_reduced cs ≡ true → reduced cs ≡ cs
 reduced_same [] h = refl
 reduced_same (c ∷ cs) h =
     elim (is_parent c) as (λ b. is_parent c ≡ b → (if b then are_reduced cs else list_all is_plain (c ∷ cs)) ≡ true → reduced (c ∷ cs) ≡ c ∷ cs) [
@@ -78,7 +78,7 @@ reduced_same (c ∷ cs) h =
       | false ↦ λ e r. plain_same (c ∷ cs) r
     ] refl h
 
-parent_step : (c : List ℕ) → is_parent c ≡ true → IsStep c
+pub parent_step : (c : List ℕ) → is_parent c ≡ true → IsStep c
 unfolding IsStep
 parent_step c e = subst (λ t. is_step t ≡ true) (sym ((bytes_eq-Decides c (codes "..")).0 e)) refl
 
@@ -107,7 +107,7 @@ left_same : (cs : List (List ℕ)) → are_reduced cs ≡ true → reduced (filt
 left_same cs h = ap reduced (steps_same cs (reduced_steps cs h)) ∙ reduced_same cs h
 
 -- what is left of components is of the simple form
-filter_steps : (cs : List (List ℕ)) → Each IsStep (filter is_step cs)
+pub filter_steps : (cs : List (List ℕ)) → Each IsStep (filter is_step cs)
 unfolding Each IsStep
 filter_steps [] = tt
 filter_steps (c ∷ cs) =
@@ -116,13 +116,13 @@ filter_steps (c ∷ cs) =
       | false ↦ λ e. filter_steps cs
     ] refl
 
-after_parent : (c : List ℕ) (cs : List (List ℕ)) → is_parent c ≡ true → are_reduced (c ∷ cs) ≡ are_reduced cs
+pub after_parent : (c : List ℕ) (cs : List (List ℕ)) → is_parent c ≡ true → are_reduced (c ∷ cs) ≡ are_reduced cs
 after_parent c cs e = rw e refl
 
-after_plain : (c : List ℕ) (cs : List (List ℕ)) → is_parent c ≡ false → are_reduced (c ∷ cs) ≡ list_all is_plain (c ∷ cs)
+pub after_plain : (c : List ℕ) (cs : List (List ℕ)) → is_parent c ≡ false → are_reduced (c ∷ cs) ≡ list_all is_plain (c ∷ cs)
 after_plain c cs e = rw e refl
 
-step_plain : (c : List ℕ) → IsStep c → is_parent c ≡ false → is_plain c ≡ true
+pub step_plain : (c : List ℕ) → IsStep c → is_parent c ≡ false → is_plain c ≡ true
 unfolding IsStep
 step_plain c h e = rw (h, e) refl
 
@@ -183,7 +183,7 @@ before_each P c (d ∷ ds) p h =
       | false ↦ (p, h)
     ]
 
-reduced_each : (P : List ℕ → Type 0) (cs : List (List ℕ)) → Each P cs → Each P (reduced cs)
+pub reduced_each : (P : List ℕ → Type 0) (cs : List (List ℕ)) → Each P cs → Each P (reduced cs)
 unfolding Each
 reduced_each P [] h = tt
 reduced_each P (c ∷ cs) h = before_each P c (reduced cs) h.0 (reduced_each P cs h.1)
@@ -199,23 +199,23 @@ unfolding HasNoSlash
 split_before [] rest h = refl
 split_before (b ∷ bs) rest h = rw (h.0, split_before bs rest h.1) refl
 
-split_join : (c : List ℕ) (cs : List (List ℕ)) → Each HasNoSlash (c ∷ cs) → slice_split is_slash (join_with_byte 47 (c ∷ cs)) ≡ c ∷ cs
+pub split_join : (c : List ℕ) (cs : List (List ℕ)) → Each HasNoSlash (c ∷ cs) → slice_split is_slash (join_with_byte 47 (c ∷ cs)) ≡ c ∷ cs
 unfolding Each
 split_join c [] h = split_whole c h.0
 split_join c (d ∷ ds) h =
     split_before c (join_with_byte 47 (d ∷ ds)) h.0 ∙ ap (λ l. c ∷ l) (split_join d ds h.1)
 
 -- the components that are left of a path
-left_reduced : (path : List ℕ) → are_reduced (simple_components path) ≡ true
+pub left_reduced : (path : List ℕ) → are_reduced (simple_components path) ≡ true
 left_reduced path = reduced_is (filter is_step (slice_split is_slash path)) (filter_steps (slice_split is_slash path))
 
-left_no_slash : (path : List ℕ) → Each HasNoSlash (simple_components path)
+pub left_no_slash : (path : List ℕ) → Each HasNoSlash (simple_components path)
 left_no_slash path =
     reduced_each HasNoSlash (filter is_step (slice_split is_slash path))
     (filter_each HasNoSlash (slice_split is_slash path) (split_no_slash path))
 
 -- a path that begins with `/`
-rooted_is : (path : List ℕ) → is_rooted path ≡ true → path ≡ 47 ∷ drop 1 path
+pub rooted_is : (path : List ℕ) → is_rooted path ≡ true → path ≡ 47 ∷ drop 1 path
 rooted_is [] e = absurd (cc)
 rooted_is (b ∷ bs) e =
     ap (λ n. n ∷ bs) (sym ((Decides-eqb 47 b).0 (and_parts (47 == b) (starts_with nat_eq bs []) e).0))
@@ -234,13 +234,13 @@ split_relative (b ∷ bs) =
     ]
 
 -- a path of the simple form is its own simple path
-rooted_same : (rest : List ℕ) → are_reduced (slice_split is_slash rest) ≡ true → simple_path (47 ∷ rest) ≡ 47 ∷ rest
+pub rooted_same : (rest : List ℕ) → are_reduced (slice_split is_slash rest) ≡ true → simple_path (47 ∷ rest) ≡ 47 ∷ rest
 unfolding simple_path
 rooted_same rest h =
     ap (λ l. 47 ∷ join_with_byte 47 l) (left_same (slice_split is_slash rest) h)
     ∙ ap (λ l. 47 ∷ l) (join_with_byte-slice_split 47 rest)
 
-relative_same : (path : List ℕ) → is_rooted path ≡ false → are_reduced (slice_split is_slash path) ≡ true → simple_path path ≡ path
+pub relative_same : (path : List ℕ) → is_rooted path ≡ false → are_reduced (slice_split is_slash path) ≡ true → simple_path path ≡ path
 unfolding simple_path
 relative_same path e h =
     rw e (ap relative_path (left_same (slice_split is_slash path) h) ∙ split_relative path ∙ join_with_byte-slice_split 47 path)
@@ -257,11 +257,11 @@ form_same path h =
       | false ↦ λ e f. relative_same path e f
     ] refl h
 
-dot_same : simple_path (codes ".") ≡ codes "."
+pub dot_same : simple_path (codes ".") ≡ codes "."
 unfolding simple_path
 dot_same = refl
 
-root_same : simple_path (codes "/") ≡ codes "/"
+pub root_same : simple_path (codes "/") ≡ codes "/"
 unfolding simple_path
 root_same = refl
 
@@ -281,12 +281,12 @@ simple_from_form path h =
     (bytes_eq-Decides path (simple_path path)).1 (sym same)
 
 -- a path that is its own simple path is of the simple form
-joined_form : (rest : List ℕ) (left : List (List ℕ)) → Each HasNoSlash left → are_reduced left ≡ true
+pub joined_form : (rest : List ℕ) (left : List (List ℕ)) → Each HasNoSlash left → are_reduced left ≡ true
     → rest ≡ join_with_byte 47 left → (rest ≡ []) ⊎ (are_reduced (slice_split is_slash rest) ≡ true)
 joined_form rest [] n r e = inl e
 joined_form rest (c ∷ cs) n r e = inr (subst (λ t. are_reduced (slice_split is_slash t) ≡ true) (sym e) (subst (λ l. are_reduced l ≡ true) (sym (split_join c cs n)) r))
 
-relative_form : (path : List ℕ) (left : List (List ℕ)) → Each HasNoSlash left → are_reduced left ≡ true
+pub relative_form : (path : List ℕ) (left : List (List ℕ)) → Each HasNoSlash left → are_reduced left ≡ true
     → path ≡ relative_path left → (path ≡ codes ".") ⊎ (are_reduced (slice_split is_slash path) ≡ true)
 relative_form path [] n r e = inl e
 relative_form path (c ∷ cs) n r e = inr (subst (λ t. are_reduced (slice_split is_slash t) ≡ true) (sym e) (subst (λ l. are_reduced l ≡ true) (sym (split_join c cs n)) r))
@@ -325,3 +325,48 @@ form_from_simple path h =
 
 pub simple_form : (path : List ℕ) → has_simple_form path ≡ is_simple path
 simple_form path = same_tests (has_simple_form path) (is_simple path) (simple_from_form path) (form_from_simple path)
+
+-- the simple path of a path is simple
+not_slash : (b : ℕ) → is_slash b ≡ false → (47 == b) ≡ false
+not_slash b e =
+    elim (47 == b) as (λ t. (47 == b) ≡ t → t ≡ false) [
+      | true ↦ λ h. absurd (let same = (Decides-eqb 47 b).0 h in let k = subst (λ n. is_slash n ≡ false) (sym same) e in cc)
+      | false ↦ λ h. refl
+    ] refl
+
+relative_start : (c : List ℕ) (cs : List (List ℕ)) → IsStep c → HasNoSlash c → is_rooted (join_with_byte 47 (c ∷ cs)) ≡ false
+unfolding IsStep HasNoSlash
+relative_start [] cs s n = absurd (cc)
+relative_start (b ∷ bs) [] s n = rw (not_slash b n.0) refl
+relative_start (b ∷ bs) (d ∷ ds) s n = rw (not_slash b n.0) refl
+
+rooted_twice : (cs : List (List ℕ)) → Each HasNoSlash cs → are_reduced cs ≡ true → simple_path (47 ∷ join_with_byte 47 cs) ≡ 47 ∷ join_with_byte 47 cs
+rooted_twice [] n r = root_same
+rooted_twice (c ∷ cs) n r = rooted_same (join_with_byte 47 (c ∷ cs)) (subst (λ l. are_reduced l ≡ true) (sym (split_join c cs n)) r)
+
+relative_twice : (cs : List (List ℕ)) → Each HasNoSlash cs → Each IsStep cs → are_reduced cs ≡ true → simple_path (relative_path cs) ≡ relative_path cs
+unfolding Each
+relative_twice [] n s r = dot_same
+relative_twice (c ∷ cs) n s r =
+    relative_same (join_with_byte 47 (c ∷ cs)) (relative_start c cs s.0 n.0) (subst (λ l. are_reduced l ≡ true) (sym (split_join c cs n)) r)
+
+rooted_path : (p : List ℕ) → is_rooted p ≡ true → simple_path p ≡ 47 ∷ join_with_byte 47 (simple_components p)
+unfolding simple_path
+rooted_path p e = rw e refl
+
+relative_path_is : (p : List ℕ) → is_rooted p ≡ false → simple_path p ≡ relative_path (simple_components p)
+unfolding simple_path
+relative_path_is p e = rw e refl
+
+simple_path_twice : (path : List ℕ) → simple_path (simple_path path) ≡ simple_path path
+simple_path_twice path =
+    let n = left_no_slash path in
+    let r = left_reduced path in
+    let s = reduced_each IsStep (filter is_step (slice_split is_slash path)) (filter_steps (slice_split is_slash path)) in
+    elim (is_rooted path) as (λ b. is_rooted path ≡ b → simple_path (simple_path path) ≡ simple_path path) [
+      | true ↦ λ e. subst (λ t. simple_path t ≡ t) (sym (rooted_path path e)) (rooted_twice (simple_components path) n r)
+      | false ↦ λ e. subst (λ t. simple_path t ≡ t) (sym (relative_path_is path e)) (relative_twice (simple_components path) n s r)
+    ] refl
+
+pub simple_is_simple : (path : List ℕ) → is_simple (simple_path path) ≡ true
+simple_is_simple path = (bytes_eq-Decides (simple_path path) (simple_path (simple_path path))).1 (sym (simple_path_twice path))

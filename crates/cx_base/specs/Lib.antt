@@ -5,5 +5,6 @@ pub mod Folders
 pub mod Memory
 pub mod Outside
 pub mod Shapes
+pub mod Shared
 pub mod Simple
 pub mod Sinks

@@ -1,3 +1,4 @@
 pub mod Members
 pub mod MemoryCalls
 pub mod Simple
+pub mod SimplePath

@@ -18,7 +18,7 @@ use crate::list::List;
 use crate::members::members_of;
 use crate::outside::Files;
 use crate::path::Path;
-use crate::simple::is_simple;
+use crate::simple_form::is_simple;
 use std::alloc::Global;
 use std::marker::Model;
 

@@ -1,5 +1,5 @@
 //! The paths of files and folders.
-ghost use Rattle.std.specs.Prelude.{◌≡◌, length, IfOk, IsTrue, ◌↔◌};
+ghost use Rattle.std.specs.Prelude.{◌≡◌, length, IfOk, IsTrue, ◌↔◌, string_bytes};
 
 use crate::errors::NoMemory;
 use crate::list::Duplicate;
@@ -27,6 +27,18 @@ impl Path {
     {
         let text = String::from_str(alloc, text)?;
         Ok(Path { text })
+    }
+
+    // This text, with no copy.
+    pub(crate) fn from_string(text: String) -> Path
+        ensures { result ≡ string_bytes text }
+    {
+        Path { text }
+    }
+
+    // The allocator that the path was made with.
+    pub(crate) fn allocator(&self) -> Global {
+        *self.text.allocator()
     }
 
     pub fn as_str(&self) -> &str

@@ -1,8 +1,8 @@
 //! Tables of paths, folders and copies.
 use cx_base::{
     Answer, Bytes, DiskFiles, Entry, FileRequest, Files, Finding, Id, List, Lost, MemoryFiles,
-    Path, Place, SeenEntry, Severity, StdSink, Stored, Text, Word, can_stand, is_simple,
-    write_whole,
+    Path, Place, SeenEntry, Severity, SharedList, StdSink, Stored, Text, Word, can_stand,
+    is_simple, simple, write_whole,
 };
 use std::alloc::Global;
 use std::io;
@@ -115,6 +115,48 @@ fn simple_paths_have_one_form(rt: HostRuntime) -> Result<(), Fail> {
             "{path}"
         );
     }
+    Ok(())
+}
+
+/// Paths, and the simple path that leads where each does.
+const SIMPLE_PATHS: [(&str, &str); 14] = [
+    ("./a//b/../c.c", "a/c.c"),
+    ("a.c", "a.c"),
+    ("", "."),
+    (".", "."),
+    ("a/..", "."),
+    ("a/../..", ".."),
+    ("../a", "../a"),
+    ("../../a/./../b", "../../b"),
+    ("/", "/"),
+    ("//", "/"),
+    ("/a/..", "/"),
+    ("/..", "/.."),
+    ("/../a//", "/../a"),
+    ("a/b/c/../../d", "a/d"),
+];
+
+#[test]
+fn simple_paths_lead_where_the_path_does(rt: HostRuntime) -> Result<(), Fail> {
+    for (path, expected) in SIMPLE_PATHS {
+        let found = simple(&Path::from_str(rt.alloc(), path)?)?;
+        assert_eq!(rt; found.as_str(), expected, "{path}");
+        assert!(rt; is_simple(&found), "{path}");
+    }
+    Ok(())
+}
+
+#[test]
+fn a_shared_list_has_its_members_in_each_copy(rt: HostRuntime) -> Result<(), Fail> {
+    let mut list = List::new(rt.alloc());
+    list.push(3usize)?;
+    list.push(5)?;
+    let shared = SharedList::from_list(rt.alloc(), list)?;
+    let copy = shared.share()?;
+    drop(shared);
+    assert_eq!(rt; copy.as_slice(), [3, 5].as_slice());
+    let empty: SharedList<usize> = SharedList::new();
+    assert_eq!(rt; empty.share()?.len(), 0);
     Ok(())
 }
 

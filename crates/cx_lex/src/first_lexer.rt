@@ -14,7 +14,7 @@ use crate::first_bytes::{is_blank, is_mark, is_pair};
 use crate::number::value_of;
 use crate::piece::Piece;
 use crate::spot::Spot;
-use cx_base::{List, NoMemory, Text};
+use cx_base::{List, NoMemory, SharedList, Text};
 use cx_tokens::{Kind, Token};
 use std::alloc::Global;
 use std::mem;
@@ -66,7 +66,7 @@ fn pieces_of(alloc: Global, bytes: &[u8]) -> Result<Option<List<Piece>>, NoMemor
         }
         rest = more;
     }
-    lexer.finish(alloc)
+    lexer.finish()
 }
 
 impl Lexer {
@@ -92,7 +92,7 @@ impl Lexer {
             self.extend(alloc, byte)?;
             return Ok(true);
         }
-        if !self.close(alloc)? {
+        if !self.close()? {
             return Ok(false);
         }
         self.mark(alloc, byte, rest)
@@ -112,19 +112,19 @@ impl Lexer {
 
     // Ends the word that is open, if one is; `false` where it is no piece of the language.
     #[tactic(auto, unfolding(crate::specs::Shapes::FirstCut::joined, crate::specs::Shapes::FirstCut::closed))]
-    fn close(&mut self, alloc: Global) -> Result<bool, NoMemory>
+    fn close(&mut self) -> Result<bool, NoMemory>
         ensures pieces { IfOk result (λ fits. joined (Some self.old.pieces) (closed self.old.state) ≡ (if fits then Some self.new.pieces else None)) }
         ensures state { OnOk result (self.new.state ≡ Between) }
         ensures spot { OnOk result (self.new.spot ≡ self.old.spot) }
     {
         match mem::replace(&mut self.state, State::Between) {
             State::Between => Ok(true),
-            State::Word(begins, text) => self.end_word(alloc, begins, text),
+            State::Word(begins, text) => self.end_word(begins, text),
         }
     }
 
     #[tactic(auto, unfolding(crate::specs::Shapes::FirstCut::joined, crate::specs::Shapes::FirstCut::one_piece))]
-    fn end_word(&mut self, alloc: Global, begins: Spot, text: Text) -> Result<bool, NoMemory>
+    fn end_word(&mut self, begins: Spot, text: Text) -> Result<bool, NoMemory>
         ensures pieces { IfOk result (λ fits. joined (Some self.old.pieces) (one_piece begins text (kind_of text)) ≡ (if fits then Some self.new.pieces else None)) }
         ensures state { OnOk result (self.new.state ≡ self.old.state) }
         ensures spot { OnOk result (self.new.spot ≡ self.old.spot) }
@@ -132,7 +132,7 @@ impl Lexer {
         match kind_of(text.as_slice()) {
             None => Ok(false),
             Some(kind) => {
-                self.pieces.push(piece_of(alloc, begins, kind, text))?;
+                self.pieces.push(piece_of(begins, kind, text))?;
                 Ok(true)
             }
         }
@@ -156,17 +156,17 @@ impl Lexer {
             return Ok(false);
         }
         let text = Text::from_slice(alloc, &[byte])?;
-        self.pieces.push(piece_of(alloc, spot, Kind::Punct, text))?;
+        self.pieces.push(piece_of(spot, Kind::Punct, text))?;
         Ok(true)
     }
 
     // The pieces, once the text is at its end.
     #[tactic(auto, unfolding(crate::specs::Shapes::FirstCut::going, crate::specs::Shapes::FirstCut::cut))]
-    fn finish(self, alloc: Global) -> Result<Option<List<Piece>>, NoMemory>
+    fn finish(self) -> Result<Option<List<Piece>>, NoMemory>
         ensures { IfOk result (λ found. found ≡ going self []) }
     {
         let mut lexer = self;
-        if lexer.close(alloc)? {
+        if lexer.close()? {
             Ok(Some(lexer.pieces))
         } else {
             Ok(None)
@@ -228,7 +228,7 @@ fn starts_number(word: &[u8]) -> bool
 }
 
 #[tactic(auto, unfolding(crate::specs::Shapes::FirstCut::piece_of))]
-fn piece_of(alloc: Global, spot: Spot, kind: Kind, text: Text) -> Piece
+fn piece_of(spot: Spot, kind: Kind, text: Text) -> Piece
     ensures { result ≡ piece_of spot kind text }
 {
     Piece {
@@ -236,9 +236,9 @@ fn piece_of(alloc: Global, spot: Spot, kind: Kind, text: Text) -> Piece
             kind,
             text,
             place: spot.place,
-            hide: List::new(alloc),
+            hide: SharedList::new(),
             space: spot.space,
-            parts: List::new(alloc),
+            parts: SharedList::new(),
             digraph: false,
         },
         first_on_line: spot.first_on_line,

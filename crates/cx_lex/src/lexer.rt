@@ -15,7 +15,7 @@ use crate::comment::Comment;
 use crate::cursor::Cursor;
 use crate::front::{Front, front_element};
 use crate::piece::{Piece, plain_form};
-use cx_base::{Duplicate, List, NoMemory, Place, Text};
+use cx_base::{Duplicate, List, NoMemory, Place, SharedList, Text};
 use cx_tokens::{Kind, Token, is_digraph};
 use std::alloc::Global;
 
@@ -207,9 +207,9 @@ fn piece_of(
             kind,
             text,
             place,
-            hide: List::new(alloc),
+            hide: SharedList::new(),
             space: before.space,
-            parts: List::new(alloc),
+            parts: SharedList::new(),
             digraph,
         },
         first_on_line: before.first_on_line,

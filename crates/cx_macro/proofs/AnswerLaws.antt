@@ -18,7 +18,7 @@ list_within table bound laid first list view ahead o e le f g h =
     within (subst (λ n. n ≤ bound) count le) (subst (λ n. Expands table bound n list o) count (subst (λ x. Expands table bound first x o) g h))
 
 pub answers : (table : Table) (bound laid : ℕ) (list : List Token) (r : Result Expanded MacroFault)
-    → IfOk r (λ x. ExpandsList table bound laid list (expanded (tokens x.list) x.laid))
+    → IfOk r (λ x. ExpandsList table bound laid list (expanded (tokens x.list.nodes) x.laid))
     → IfErr r (λ fault. fault ≢ NoMemory → ExpandsList table bound laid list (refused fault))
     → (o : Outcome) → ExpandsList table bound laid list o → Answers o r
 answers table bound laid list (Ok x) h k o e = list_same one_piece e h

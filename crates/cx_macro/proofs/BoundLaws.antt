@@ -7,7 +7,6 @@ use Rattle.cx_macro.specs.declared.fault.MacroFault.{MacroFault}
 use Rattle.cx_macro.specs.declared.fault.MacroFault.TheVariants.{TooManyTokens}
 use Rattle.cx_macro.specs.Expansion.{ArgumentsOutcome, Expands, ExpandsEach, ExpandsList, Outcome, Replaces, Replacement, all_expanded, argument_count, argument_fault, preceded_by_argument, preceded_by_token, definition_at, ends, expanded, function_like, no_more, not_a_macro, no_replacement, not_expanded, not_wanted, object_like, one_refused, refused, replacement_of, stops, token_goes, token_stays, too_long, too_many, unclosed_call, wanted, within}
 use Rattle.cx_macro.specs.Macros.{Table}
-use Rattle.cx_macro.proofs.InvocationLaws.{use_none}
 
 nothing : (table : Table) (bound laid : ℕ) (list : List Token) → All (λ t. definition_at table t ≡ None) list → Expands table bound laid list (expanded list laid)
 nothing table bound laid [] h = ends

@@ -2,7 +2,7 @@
 use Rattle.std.proofs.Common.{◌≡◌, ℕ, zero, suc, ◌+◌, ◌-◌, List, [], ◌∷◌, ◌++◌, Bool, true, false, cond, ◌&&◌, ◌||◌, ◌==◌, Option, Some, None, refl, sym, ◌∙◌, ap, subst, arith, ◌⊎◌, ⊎_elim, ◌<◌, MatchOption}
 use Rattle.std.proofs.lemmas.List.{append_assoc, append-nil}
 use Rattle.std.proofs.lemmas.Bool.Decides.{nat_tests}
-use Rattle.std.proofs.Common.{bytes_eq, codes, is_none, length, ◌*◌, ◌≤◌}
+use Rattle.std.proofs.Common.{length-append, bytes_eq, codes, is_none, length, ◌*◌, ◌≤◌}
 use Rattle.std.proofs.lemmas.Slice.Eq.{bytes_eq-Decides}
 use Rattle.cx_tokens.specs.declared.token.Token.{Token}
 use Rattle.cx_tokens.specs.Brackets.{is_punct, is_punctuator}
@@ -44,6 +44,13 @@ is_open_is_not_close t e = not_close (is_punct t.kind) t.text e
     not_close true text e =
         let same : codes "(" ≡ text = (bytes_eq-Decides (codes "(") text).0 e in
         subst (λ x. bytes_eq (codes ")") x ≡ false) same refl
+
+pub is_close_is_not_open : (t : Token) → is_close t ≡ true → is_open t ≡ false
+is_close_is_not_open t c = at (is_open t) refl
+  where
+    at : (b : Bool) → is_open t ≡ b → b ≡ false
+    at false o = refl
+    at true o = let n = is_open_is_not_close t o in absurd cc
 
 pub bracketed_goes : (front : List Token) (depth : ℕ) (t : Token) (ts : List Token) → ((depth == 0) && is_close t) ≡ false
     → behind_inner front (bracketed depth (t ∷ ts)) ≡ behind_inner (front ++ t ∷ []) (bracketed (deeper depth t) ts)
@@ -317,6 +324,15 @@ cut_splits depth [] closing behind = (closing ∷ [], refl, refl)
 cut_splits depth (t ∷ ts) closing behind =
     split_first (is_comma t && (depth == 0)) t ts (cut_at_comma (cond (is_open t) (depth + 1) (cond (is_close t) (depth - 1) depth)) ts)
     (cut_splits (cond (is_open t) (depth + 1) (cond (is_close t) (depth - 1) depth)) ts) closing behind
+
+pub cut_counts : (ts : List Token) (closing : Token) (behind : List Token)
+    → length (ts ++ closing ∷ behind) ≡ length (cut_at_comma 0 ts).front + (1 + length (left_behind (cut_at_comma 0 ts).after closing behind))
+unfolding Splits
+cut_counts ts closing behind =
+    let p = cut_splits 0 ts closing behind in
+    let front = (cut_at_comma 0 ts).front in
+    let left = left_behind (cut_at_comma 0 ts).after closing behind in
+    ap length p.2 ∙ (length-append front (p.0 ++ left) ∙ ap (λ n. length front + n) (length-append p.0 left ∙ ap (λ n. n + length left) (sym p.1)))
 
 -- the segment of the tokens up to a comma
 cuts_front : (s : Segment) (ts front : List Token) (rest : Option (List Token)) → cut_at_comma 0 ts ≡ record { front = front; after = rest }

@@ -1,12 +1,12 @@
 -- What counting finds are the brackets and the arguments of an invocation.
-use Rattle.std.proofs.Common.{◌≡◌, ℕ, zero, suc, ◌+◌, ◌-◌, ◌<◌, List, [], ◌∷◌, ◌++◌, Bool, true, false, cond, ◌&&◌, ◌==◌, Option, Some, None, refl, sym, ◌∙◌, ap, subst, arith, length, length-append, ⊎_elim}
+use Rattle.std.proofs.Common.{◌≡◌, ℕ, zero, suc, ◌+◌, ◌-◌, ◌<◌, List, [], ◌∷◌, ◌++◌, Bool, true, false, cond, ◌&&◌, ◌==◌, Option, Some, None, refl, sym, ◌∙◌, ap, subst, arith, length, length-append}
 use Rattle.std.proofs.lemmas.List.{append_assoc, append-nil}
 use Rattle.std.proofs.lemmas.Bool.Decides.{nat_tests}
 use Rattle.cx_tokens.specs.declared.token.Token.{Token}
 use Rattle.cx_macro.specs.Arguments.{AreArguments, AreJoined, Arguments, Bracketed, IsArgument, IsBracketed, IsRoundNested, argument_brackets, argument_ends, argument_token, each_given, is_close, is_comma, is_open, last_argument, more_arguments, nested_brackets, nested_ends, nested_token, no_argument, no_arguments, variable_alone, variable_given, variable_left_out}
 use Rattle.cx_macro.specs.Shapes.Calls.{behind_front, behind_inner, deeper}
 use Rattle.cx_macro.specs.Shapes.Counting.{Cut, Named, arguments_of, bracketed, cut_at_comma, named_arguments, with_argument, with_inner, with_variable}
-use Rattle.cx_macro.proofs.CallLaws.{behind_inner-nil, bracketed_close, bracketed_goes, cut_comma, cut_end, cut_goes, is_open_is_not_close, is_open_is_not_comma, named_suc}
+use Rattle.cx_macro.proofs.CallLaws.{behind_inner-nil, bracketed_close, bracketed_goes, cut_comma, cut_end, cut_goes, is_close_is_not_open, is_open_is_not_close, is_open_is_not_comma, named_suc}
 
 -- nested tokens, with so many closing brackets between
 Closes : ℕ → List Token → Type 0
@@ -71,34 +71,27 @@ bracketed_only ts b e =
     record { whole = f.1; nested = f.0; closes = f.2 }
 
 -- how many brackets are open after a token
-deeper_open : (d : ℕ) (t : Token) → is_open t ≡ true → deeper d t ≡ suc d
+pub deeper_open : (d : ℕ) (t : Token) → is_open t ≡ true → deeper d t ≡ suc d
 unfolding deeper
 deeper_open d t o = ap (λ b. cond b (d + 1) (cond (is_close t) (d - 1) d)) o ∙ omega arith
 
-is_close_is_not_open : (t : Token) → is_close t ≡ true → is_open t ≡ false
-is_close_is_not_open t c = at (is_open t) refl
-  where
-    at : (b : Bool) → is_open t ≡ b → b ≡ false
-    at false o = refl
-    at true o = let n = is_open_is_not_close t o in absurd cc
-
-deeper_close : (d : ℕ) (t : Token) → is_close t ≡ true → deeper (suc d) t ≡ d
+pub deeper_close : (d : ℕ) (t : Token) → is_close t ≡ true → deeper (suc d) t ≡ d
 unfolding deeper
 deeper_close d t c =
     ap (λ b. cond b (suc d + 1) (cond (is_close t) (suc d - 1) (suc d))) (is_close_is_not_open t c)
     ∙ (ap (λ b. cond b (suc d - 1) (suc d)) c ∙ omega arith)
 
-deeper_plain : (d : ℕ) (t : Token) → is_open t ≡ false → is_close t ≡ false → deeper d t ≡ d
+pub deeper_plain : (d : ℕ) (t : Token) → is_open t ≡ false → is_close t ≡ false → deeper d t ≡ d
 unfolding deeper
 deeper_plain d t o c = ap (λ b. cond b (d + 1) (cond (is_close t) (d - 1) d)) o ∙ ap (λ b. cond b (d - 1) d) c
 
-within_depth : (d : ℕ) (b : Bool) → ((suc d == 0) && b) ≡ false
+pub within_depth : (d : ℕ) (b : Bool) → ((suc d == 0) && b) ≡ false
 within_depth d b = ap (λ x. x && b) (no_zero d)
   where
     no_zero : (d : ℕ) → (suc d == 0) ≡ false
     no_zero d = grind (arith, nat_tests)
 
-at_depth : (d : ℕ) (b : Bool) → b ≡ false → ((d == 0) && b) ≡ false
+pub at_depth : (d : ℕ) (b : Bool) → b ≡ false → ((d == 0) && b) ≡ false
 at_depth d b e = at (d == 0) b e
   where
     at : (a b : Bool) → b ≡ false → (a && b) ≡ false

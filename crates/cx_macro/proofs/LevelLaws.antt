@@ -2,11 +2,12 @@
 use Rattle.std.proofs.Common.{◌≡◌, ℕ, Bool, true, false, cond, ◌==◌, ◌||◌, List, [], ◌∷◌, ◌++◌, map, option_map, Option, Some, None, refl, sym, ◌∙◌, ap, ap₂, subst, IfSome, ⊎_elim, append_assoc, arith}
 use Rattle.std.proofs.lemmas.List.{append-nil, map-append}
 use Rattle.std.proofs.lemmas.List.Elements.{All-append, All-cons, All-head, All-nil, All-tail}
+use Rattle.std.specs.Option.{is_some}
 use Rattle.cx_macro.specs.Partners.{HasNoPartners}
 use Rattle.std.proofs.lemmas.Bool.{cases_Bool, both_ways}
 use Rattle.std.proofs.lemmas.Bool.Decides.{nat_tests}
 use Rattle.cx_tokens.specs.declared.token.Token.{Token}
-use Rattle.cx_tokens.specs.Nodes.{IsTokenList, TokenNode, nodes_before, nodes_after, erased, first_of, inserted, is_live, live_partner, node_of, with_live_partners, token_of, tokens, nodes_to}
+use Rattle.cx_tokens.specs.Nodes.{IsTokenList, TokenNode, nodes_before, nodes_after, erased, first_of, inserted, is_live, live_partner, node_of, partner_in, partner_of, with_live_partners, token_of, tokens, nodes_to}
 use Rattle.cx_tokens.proofs.NodeLaws.{IsNumbered, dead_parts, found, live_left, numbered_apart}
 use Rattle.cx_macro.specs.Shapes.Levels.{nodes_ahead, nodes_done}
 
@@ -224,6 +225,8 @@ pub record First (last : Option ℕ) (nodes : List TokenNode) (n : ℕ) : Type 0
   pub ahead : nodes_ahead last nodes ≡ node ∷ rest
   pub is_node : node_of n nodes ≡ Some node
   pub erased_is : erased n nodes ≡ with_live_partners (nodes_done last nodes ++ rest)
+  pub up_there : nodes_to n nodes ≡ nodes_done last nodes ++ node ∷ []
+  pub behind : nodes_after n nodes ≡ rest
 
 node_at : (front rest : List TokenNode) (x : TokenNode) → is_live x.number front ≡ false → node_of x.number (front ++ x ∷ rest) ≡ Some x
 node_at [] rest x l = ap (λ b. cond b (Some x) (node_of x.number rest)) (same_number x.number)
@@ -253,6 +256,8 @@ first_at last nodes x rest k l e =
       ahead = e;
       is_node = ap (node_of x.number) w ∙ node_at front rest x f;
       erased_is = ap with_live_partners (ap₂ (λ a b. a ++ b) (ap (nodes_before x.number) w ∙ before_at front rest x f) (ap (nodes_after x.number) w ∙ behind_at front rest x f));
+      up_there = ap (nodes_to x.number) w ∙ up_to_at front rest x f;
+      behind = ap (nodes_after x.number) w ∙ behind_at front rest x f;
     }
 
 pub first_is : (last : Option ℕ) (nodes : List TokenNode) (n : ℕ) → IsTokenList nodes → IsLast last nodes → Some n ≡ first_of (nodes_ahead last nodes) → First last nodes n
@@ -323,3 +328,24 @@ no_node (x ∷ xs) e = absurd cc
 pub end_alone : (last : Option ℕ) (nodes : List TokenNode) → IsLast last nodes → IsDoneAlone last nodes → tokens (nodes_ahead last nodes) ≡ [] → HasNoPartners nodes
 end_alone last nodes l a e =
     subst HasNoPartners (sym (whole last nodes l ∙ (ap (λ t. nodes_done last nodes ++ t) (no_node (nodes_ahead last nodes) e) ∙ append-nil (nodes_done last nodes)))) a
+
+-- the first node ahead is passed
+pub pass_done : (last : Option ℕ) (nodes : List TokenNode) (n : ℕ) (t : Token) (rest : List Token) (f : First last nodes n) → tokens (nodes_ahead last nodes) ≡ t ∷ rest
+    → (tokens (nodes_to n nodes) ≡ tokens (nodes_done last nodes) ++ t ∷ []) × (tokens (nodes_after n nodes) ≡ rest)
+pass_done last nodes n t rest f e =
+    let a : f.node.token ∷ tokens f.rest ≡ t ∷ rest = sym (ap tokens f.ahead) ∙ e in
+    let s : f.node.token ≡ t = cc in
+    let r : tokens f.rest ≡ rest = cc in (
+      ap tokens f.up_there ∙ (map-append (λ (y : TokenNode). y.token) (nodes_done last nodes) (f.node ∷ []) ∙ ap (λ y. tokens (nodes_done last nodes) ++ y ∷ []) s),
+      ap tokens f.behind ∙ r,
+    )
+
+pub pass_alone : (last : Option ℕ) (nodes : List TokenNode) (n : ℕ) (f : First last nodes n) → partner_of n nodes ≡ None → IsDoneAlone last nodes
+    → HasNoPartners (nodes_to n nodes)
+pass_alone last nodes n f p h =
+    let alone : f.node.partner ≡ None = sym (ap partner_in f.is_node) ∙ p in
+    subst HasNoPartners (sym f.up_there) (All-append IsAlone (nodes_done last nodes) (f.node ∷ []) h (All-cons IsAlone f.node [] alone (All-nil IsAlone)))
+
+pub none_from : (o : Option ℕ) → is_some o ≡ false → o ≡ None
+none_from None e = refl
+none_from (Some n) e = absurd cc

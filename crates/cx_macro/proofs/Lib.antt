@@ -6,8 +6,10 @@ pub mod PieceLaws
 pub mod DefinableLaws
 pub mod ExistenceLaws
 pub mod LevelLaws
+pub mod LookupLaws
 mod ReplacementExamples
 pub mod RoleLaws
+pub mod SetLaws
 pub mod StringLaws
 pub mod SubstituteLaws
 pub mod PastingLaws
@@ -20,3 +22,4 @@ pub mod HideLaws
 mod Examples
 pub mod WalkLaws
 pub mod SegmentLaws
+pub mod FrameLaws

@@ -1,5 +1,5 @@
 -- At most one outcome: each part of macro replacement gives one result.
-use Rattle.std.proofs.Common.{◌≡◌, ℕ, ◌+◌, Bool, List, [], ◌∷◌, ◌++◌, Option, Some, None, refl, sym, ◌∙◌, ap, subst, arith, length}
+use Rattle.std.proofs.Common.{◌≡◌, ℕ, ◌+◌, Bool, List, [], ◌∷◌, ◌++◌, Option, refl, sym, ◌∙◌, ap, subst, arith, length}
 use Rattle.std.proofs.lemmas.List.{same_from_push}
 use Rattle.cx_tokens.specs.declared.token.Kind.{Kind}
 use Rattle.cx_tokens.specs.declared.token.Token.{Token}

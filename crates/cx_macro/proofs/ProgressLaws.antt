@@ -21,7 +21,7 @@ use Rattle.cx_macro.specs.Partners.{HasNoPartners}
 use Rattle.cx_macro.specs.Shapes.Substitutes.{is_raw}
 use Rattle.cx_macro.specs.Replacement.{Glues, is_expanded, substitutes_of, replacement_tokens}
 use Rattle.cx_macro.specs.Shapes.Segments.{IsCut, Spread}
-use Rattle.cx_macro.specs.Shapes.Steps.{kept_arguments, FailsAt, FailsBehind, FailsIn, IsExpandingState, IsExpandingAfterToken, IsExpandingCall, IsExpanding, StepsTo, Proceeds, Resumes, StepIs, Takes, macro_in, wanted_argument, weights, work, work_in}
+use Rattle.cx_macro.specs.Shapes.Steps.{kept_arguments, FailsAt, FailsAtStart, FailsBehind, FailsIn, IsExpandingState, IsExpandingAfterToken, IsExpandingCall, IsExpanding, StepsTo, Proceeds, Resumes, StepIs, Takes, macro_in, wanted_argument, weights, work, work_in}
 use Rattle.cx_macro.specs.Arguments.{begins_call}
 use Rattle.cx_macro.proofs.CallLaws.{arguments_weight, bracketed_length, weights-append}
 use Rattle.cx_macro.proofs.StepLaws.{in_bad_paste, in_called, in_next, in_replaced, in_too_many, object_bad_paste, object_too_many, on_begins, on_end, on_last, on_miscounted, on_more, on_object, on_start, on_stays_outermost, on_stays_within, on_unclosed}
@@ -177,6 +177,65 @@ takes_stays_within table bound t old new u le some a b c d e f =
     stays_in (call ∷ calls) l start whole h =
         on_stays_within table bound start whole old.laid old.buffer.done old.done old.buffer.ahead old.buffer.more t call calls u h
 
+-- a step that takes a token
+taken_on : (table : Table) (bound : ℕ) (t : Token) (old taken : State) (start : ℕ) (whole : List Token) → taken.laid ≡ old.laid → taken.buffer.done ≡ old.buffer.done
+    → taken.done ≡ old.done → old.buffer.ahead ≡ t ∷ taken.buffer.ahead → taken.buffer.more ≡ old.buffer.more → taken.calls ≡ old.calls
+    → IsExpandingState table bound start whole old → IsExpandingAfterToken table bound t start whole taken
+taken_on table bound t old taken start whole a b c d e f h =
+    subst (λ n. IsExpanding table bound start whole n taken.buffer.done taken.done (t ∷ taken.buffer.ahead) taken.buffer.more taken.calls) (sym a)
+    (subst (λ x. IsExpanding table bound start whole old.laid x taken.done (t ∷ taken.buffer.ahead) taken.buffer.more taken.calls) (sym b)
+    (subst (λ x. IsExpanding table bound start whole old.laid old.buffer.done x (t ∷ taken.buffer.ahead) taken.buffer.more taken.calls) (sym c)
+    (subst (λ x. IsExpanding table bound start whole old.laid old.buffer.done old.done x taken.buffer.more taken.calls) d
+    (subst (λ x. IsExpanding table bound start whole old.laid old.buffer.done old.done old.buffer.ahead x taken.calls) (sym e)
+    (subst (λ x. IsExpanding table bound start whole old.laid old.buffer.done old.done old.buffer.ahead old.buffer.more x) (sym f) h)))))
+
+pub step_takes : (table : Table) (bound : ℕ) (t : Token) (old taken new : State) → taken.laid ≡ old.laid → taken.buffer.done ≡ old.buffer.done → taken.done ≡ old.done
+    → old.buffer.ahead ≡ t ∷ taken.buffer.ahead → taken.buffer.more ≡ old.buffer.more → taken.calls ≡ old.calls → Takes table bound t taken new
+    → StepIs table bound old (Goes new)
+step_takes table bound t old taken new a b c d e f p = record {
+  keeps = λ start whole h. p.keeps start whole (taken_on table bound t old taken start whole a b c d e f h);
+  less = λ start whole h. subst (λ n. work bound new.laid new.buffer.ahead new.buffer.more < n)
+      (ap (λ n. work bound n (t ∷ taken.buffer.ahead) taken.buffer.more) a
+      ∙ (ap (λ x. work bound old.laid x taken.buffer.more) (sym d) ∙ ap (work bound old.laid old.buffer.ahead) e))
+      (p.less start whole (taken_on table bound t old taken start whole a b c d e f h));
+  within = p.within;
+}
+
+pub step_fails : (table : Table) (bound : ℕ) (t : Token) (old taken : State) (fault : MacroFault) → taken.laid ≡ old.laid → taken.buffer.done ≡ old.buffer.done
+    → taken.done ≡ old.done → old.buffer.ahead ≡ t ∷ taken.buffer.ahead → taken.buffer.more ≡ old.buffer.more → taken.calls ≡ old.calls
+    → FailsAt table bound t taken fault → FailsAtStart table bound old fault
+step_fails table bound t old taken fault a b c d e f p n start whole h = p n start whole (taken_on table bound t old taken start whole a b c d e f h)
+
+-- a token that is ahead
+pub first_token : (ts : List Token) → (length ts == 0) ≡ false → (t : Token) × (rest : List Token) × (ts ≡ t ∷ rest)
+first_token [] e = absurd cc
+first_token (t ∷ rest) e = (t, rest, refl)
+
+pub one_first : (P : Token → List Token → Type 0) (ahead : List Token) (t t' : Token) (rest rest' : List Token) → ahead ≡ t ∷ rest → ahead ≡ t' ∷ rest'
+    → P t rest → P t' rest'
+one_first P ahead t t' rest rest' e f h =
+    let all : t ∷ rest ≡ t' ∷ rest' = sym e ∙ f in
+    let same : t ≡ t' = cc in
+    let behind : rest ≡ rest' = cc in
+    subst (λ x. P x rest') same (subst (P t) behind h)
+
+-- a token stays, by the edit that takes it off those ahead
+pub stays_outermost : (table : Table) (bound : ℕ) (t : Token) (rest : List Token) (old new : State) → old.buffer.ahead ≡ t ∷ rest
+    → invocation_of table t rest ≡ no_invocation → old.laid ≤ bound → old.calls ≡ []
+    → new.laid ≡ old.laid → new.buffer.done ≡ old.buffer.done ++ t ∷ [] → new.done ≡ old.done → new.buffer.ahead ≡ rest → new.buffer.more ≡ old.buffer.more
+    → new.calls ≡ old.calls → StepIs table bound old (Goes new)
+stays_outermost table bound t rest old new w u le none a b c d e f =
+    let taken : State = record old { buffer = record { done = old.buffer.done; ahead = rest; more = old.buffer.more } } in
+    step_takes table bound t old taken new refl refl refl w refl refl (takes_stays_outermost table bound t taken new u le none a b c d e f)
+
+pub stays_within : (table : Table) (bound : ℕ) (t : Token) (rest : List Token) (old new : State) → old.buffer.ahead ≡ t ∷ rest
+    → invocation_of table t rest ≡ no_invocation → old.laid ≤ bound → 0 < length old.calls
+    → new.laid ≡ old.laid → new.buffer.done ≡ old.buffer.done → new.done ≡ old.done ++ t ∷ [] → new.buffer.ahead ≡ rest → new.buffer.more ≡ old.buffer.more
+    → new.calls ≡ old.calls → StepIs table bound old (Goes new)
+stays_within table bound t rest old new w u le some a b c d e f =
+    let taken : State = record old { buffer = record { done = old.buffer.done; ahead = rest; more = old.buffer.more } } in
+    step_takes table bound t old taken new refl refl refl w refl refl (takes_stays_within table bound t taken new u le some a b c d e f)
+
 -- the name of an object-like macro is replaced
 pub takes_object : (table : Table) (bound : ℕ) (t : Token) (old new : State) (d : Definition) (hide : List (List ℕ)) (made news : List Token)
     → invocation_of table t old.buffer.ahead ≡ of_object d → Glues [] (substitutes_of d no_arguments []) (Some made) → hide ≡ with_name t.text t.hide
@@ -277,30 +336,7 @@ pub call_fails : (table : Table) (bound : ℕ) (t : Token) (old : State) (fault 
 call_fails table bound t old fault ps o passed cut hide call def m f n start whole h =
     f n start whole (in_made table bound t old ps o passed cut hide call def m start whole h)
 
--- a step that takes a token, and one that goes on with a call
-taken_on : (table : Table) (bound : ℕ) (t : Token) (old taken : State) (start : ℕ) (whole : List Token) → taken.laid ≡ old.laid → taken.buffer.done ≡ old.buffer.done
-    → taken.done ≡ old.done → old.buffer.ahead ≡ t ∷ taken.buffer.ahead → taken.buffer.more ≡ old.buffer.more → taken.calls ≡ old.calls
-    → IsExpandingState table bound start whole old → IsExpandingAfterToken table bound t start whole taken
-taken_on table bound t old taken start whole a b c d e f h =
-    subst (λ n. IsExpanding table bound start whole n taken.buffer.done taken.done (t ∷ taken.buffer.ahead) taken.buffer.more taken.calls) (sym a)
-    (subst (λ x. IsExpanding table bound start whole old.laid x taken.done (t ∷ taken.buffer.ahead) taken.buffer.more taken.calls) (sym b)
-    (subst (λ x. IsExpanding table bound start whole old.laid old.buffer.done x (t ∷ taken.buffer.ahead) taken.buffer.more taken.calls) (sym c)
-    (subst (λ x. IsExpanding table bound start whole old.laid old.buffer.done old.done x taken.buffer.more taken.calls) d
-    (subst (λ x. IsExpanding table bound start whole old.laid old.buffer.done old.done old.buffer.ahead x taken.calls) (sym e)
-    (subst (λ x. IsExpanding table bound start whole old.laid old.buffer.done old.done old.buffer.ahead old.buffer.more x) (sym f) h)))))
-
-pub step_takes : (table : Table) (bound : ℕ) (t : Token) (old taken new : State) → taken.laid ≡ old.laid → taken.buffer.done ≡ old.buffer.done → taken.done ≡ old.done
-    → old.buffer.ahead ≡ t ∷ taken.buffer.ahead → taken.buffer.more ≡ old.buffer.more → taken.calls ≡ old.calls → Takes table bound t taken new
-    → StepIs table bound old (Goes new)
-step_takes table bound t old taken new a b c d e f p = record {
-  keeps = λ start whole h. p.keeps start whole (taken_on table bound t old taken start whole a b c d e f h);
-  less = λ start whole h. subst (λ n. work bound new.laid new.buffer.ahead new.buffer.more < n)
-      (ap (λ n. work bound n (t ∷ taken.buffer.ahead) taken.buffer.more) a
-      ∙ (ap (λ x. work bound old.laid x taken.buffer.more) (sym d) ∙ ap (work bound old.laid old.buffer.ahead) e))
-      (p.less start whole (taken_on table bound t old taken start whole a b c d e f h));
-  within = p.within;
-}
-
+-- a step that goes on with a call
 ended_on : (table : Table) (bound : ℕ) (old : State) (call : Call) (calls : List Call) (start : ℕ) (whole : List Token) → old.buffer.ahead ≡ [] → old.calls ≡ call ∷ calls
     → IsExpandingState table bound start whole old → IsExpanding table bound start whole old.laid old.buffer.done old.done [] old.buffer.more (call ∷ calls)
 ended_on table bound old call calls start whole a c h =
@@ -319,7 +355,7 @@ step_resumes table bound old new b call calls s a c p' =
     }
 
 pub step_ends : (table : Table) (bound : ℕ) (old : State) (b : Spread) (list : TokenList) → old.laid ≤ bound → b ≡ old.buffer → old.buffer.ahead ≡ [] → old.calls ≡ []
-    → (b.more ≡ [] → tokens list ≡ b.done ++ b.ahead) → (b.more ≡ [] → b.ahead ≡ [] → HasNoPartners list) → StepIs table bound old (Ends list old.laid)
+    → (b.more ≡ [] → tokens list.nodes ≡ b.done ++ b.ahead) → (b.more ≡ [] → b.ahead ≡ [] → HasNoPartners list.nodes) → StepIs table bound old (Ends list old.laid)
 step_ends table bound old b list le s a c e alone = (
   le,
   λ start whole h.
@@ -327,7 +363,7 @@ step_ends table bound old b list le s a c e alone = (
       subst (λ x. IsExpanding table bound start whole old.laid old.buffer.done old.done x old.buffer.more []) a
       (subst (λ x. IsExpanding table bound start whole old.laid old.buffer.done old.done old.buffer.ahead old.buffer.more x) c h) in
       let none : b.more ≡ [] = ap (λ (x : Spread). x.more) s ∙ on_last table bound start whole old.laid old.buffer.done old.done [] old.buffer.more on in
-      let same : tokens list ≡ old.buffer.done =
+      let same : tokens list.nodes ≡ old.buffer.done =
       e none ∙ (ap (λ (x : Spread). x.done ++ x.ahead) s ∙ (ap (λ ts. old.buffer.done ++ ts) a ∙ append-nil old.buffer.done)) in (
         subst (λ ts. Expands table bound start whole (expansion.expanded ts old.laid)) (sym same)
             (on_end table bound start whole old.laid old.buffer.done old.done old.buffer.more on),

@@ -1,12 +1,18 @@
--- What stands in a replacement list, and what one parameter is in it.
-use Rattle.std.proofs.Common.{◌≡◌, ℕ, zero, suc, ap₂, ◌+◌, ◌<◌, List, [], ◌∷◌, ◌++◌, Bool, true, false, not, ◌&&◌, ◌||◌, Option, Some, None, if◌then◌else◌, refl, sym, ◌∙◌, ap, subst, arith, ◌==◌, reverse, take, drop, flat_map, get_or}
+-- What stands in a replacement list, and what the code keeps of it.
+use Rattle.std.proofs.Common.{◌≡◌, ℕ, zero, suc, ap₂, ◌+◌, ◌<◌, List, [], ◌∷◌, ◌++◌, Bool, true, false, not, ◌&&◌, ◌||◌, Option, Some, None, if◌then◌else◌, refl, sym, ◌∙◌, ap, subst, arith, ◌==◌, ⊎_elim, length, map, reverse, set, take, drop, flat_map, get_or}
+use Rattle.std.proofs.lemmas.Bool.{cases_Bool}
 use Rattle.std.proofs.lemmas.Bool.Decides.{nat_tests}
-use Rattle.std.proofs.lemmas.List.{append_assoc, reverse-append}
+use Rattle.std.proofs.lemmas.List.{append-nil, append_assoc, get_or-set_other, get_or-set_same, reverse-append}
+use Rattle.std.specs.List.{list_any}
 use Rattle.cx_tokens.specs.declared.token.Token.{Token}
-use Rattle.cx_macro.specs.Arguments.{Arguments, is_comma}
+use Rattle.cx_macro.specs.declared.roles.Role as code_role
+use Rattle.cx_macro.specs.declared.roles.Uses.{Uses}
+use Rattle.cx_macro.specs.Arguments.{Arguments}
 use Rattle.cx_macro.specs.Macros.{Definition, is_hash, is_paste, parameter_at}
-use Rattle.cx_macro.specs.Replacement.{HasNoGnuComma, standard_substitutes_of, substitutes_by, substitutes_of, Position, positions_after, Role, begins_with, ends_gnu_comma, expanded, follows_gnu_comma, given, gnu_comma, gnu_paste, gnu_variable, hash, hash_operand, is_gnu_comma, is_index, is_parameter, is_variable, itself, paste, role_by, role_of, role_of_parameter, standard_role, substituted, takes_expanded, variable_index}
-use Rattle.cx_macro.specs.Shapes.Roles.{is_role_expanded, is_role_given, positions_from, takes_given}
+use Rattle.cx_macro.specs.Replacement.{HasNoGnuComma, Substitute, standard_substitutes_of, substitutes_by, substitutes_of, Position, positions_after, positions_of, Role, begins_with, ends_gnu_comma, expanded, follows_gnu_comma, given, gnu_comma, gnu_paste, gnu_variable, hash, hash_operand, is_expanded, is_gnu_comma, is_parameter, paste, role_by, role_of, role_of_parameter, standard_role, substituted, takes_expanded, variable_index}
+use Rattle.cx_macro.specs.Shapes.Roles.{code_of, nearest_or, positions_from, role_at, takes_given}
+use Rattle.cx_macro.specs.Shapes.Substitutes.{is_raw}
+use Rattle.cx_macro.specs.Shapes.Uses.{AreUses, roles_of}
 
 -- ---- the next position
 
@@ -35,104 +41,122 @@ moved : (before after : List Token) (t : Token) → reverse before ++ (t ∷ aft
 moved before after t =
     sym (ap (λ x. x ++ after) (reverse-append (t ∷ []) before) ∙ append_assoc (reverse before) (t ∷ []) after)
 
--- ---- one parameter
+-- ---- the code's roles
 
-and_false : (a : Bool) → (a && false) ≡ false
-and_false true = refl
-and_false false = refl
+module _ (d : Definition) (p : Position) where
+  -- a role is found again from the code's form and the position
+  abbrev Back : Role → Type 0
+  Back r = role_at p (code_of r) ≡ r
 
-and_true : (a : Bool) → (a && true) ≡ a
-and_true true = refl
-and_true false = refl
-
-module _ (d : Definition) (p : Position) (i : ℕ) where
-  -- a role, of which a test says what the index test and another say
-  abbrev Agrees : Role → Type 0
-  Agrees r = (takes_expanded i r ≡ (is_index i (parameter_at d p.token) && is_role_expanded r))
-      × (takes_given i r ≡ (is_index i (parameter_at d p.token) && is_role_given r))
-
-  none_agrees : (r : Role) → takes_expanded i r ≡ false → is_role_expanded r ≡ false → takes_given i r ≡ false → is_role_given r ≡ false → Agrees r
-  none_agrees r a b e f = (
-    a ∙ (sym (and_false _) ∙ ap (λ x. is_index i (parameter_at d p.token) && x) (sym b)),
-    e ∙ (sym (and_false _) ∙ ap (λ x. is_index i (parameter_at d p.token) && x) (sym f)),
-  )
-
-  at_index : (j : ℕ) → parameter_at d p.token ≡ Some j → (i == j) ≡ is_index i (parameter_at d p.token)
-  at_index j e = ap (is_index i) (sym e)
-
-  expanded_agrees : (j : ℕ) → (i == j) ≡ is_index i (parameter_at d p.token) → Agrees (expanded j)
-  expanded_agrees j e = (e ∙ sym (and_true _), sym (and_false _))
-
-  variable_agrees : (j : ℕ) → (i == j) ≡ is_index i (parameter_at d p.token) → Agrees (gnu_variable j)
-  variable_agrees j e = (e ∙ sym (and_true _), sym (and_false _))
-
-  given_agrees : (j : ℕ) → (i == j) ≡ is_index i (parameter_at d p.token) → Agrees (given j)
-  given_agrees j e = (sym (and_false _), e ∙ sym (and_true _))
-
-  operand_agrees : (t : Token) (j : ℕ) → (i == j) ≡ is_index i (parameter_at d p.token) → Agrees (hash_operand t j)
-  operand_agrees t j e = (sym (and_false _), e ∙ sym (and_true _))
-
-  choice : (b : Bool) (r s : Role) → Agrees r → Agrees s → Agrees (if b then r else s)
+  choice : (b : Bool) (r s : Role) → Back r → Back s → Back (if b then r else s)
   choice true r s a b = a
   choice false r s a b = b
 
-  substituted_agrees : (j : ℕ) → (i == j) ≡ is_index i (parameter_at d p.token) → Agrees (substituted p j)
-  substituted_agrees j e = choice _ (given j) (expanded j) (given_agrees j e) (expanded_agrees j e)
+  substituted_back : (i : ℕ) → Back (substituted p i)
+  substituted_back i = choice (begins_with is_paste p.before || begins_with is_paste p.after) (given i) (expanded i) refl refl
 
-  parameter_agrees : (before : List Token) (j : ℕ) → (i == j) ≡ is_index i (parameter_at d p.token) → Agrees (role_of_parameter p before j)
-  parameter_agrees [] j e = substituted_agrees j e
-  parameter_agrees (t ∷ before) j e = choice _ (hash_operand t j) (substituted p j) (operand_agrees t j e) (substituted_agrees j e)
+  parameter_back : (before : List Token) (i : ℕ) → p.before ≡ before → Back (role_of_parameter p before i)
+  parameter_back [] i e = substituted_back i
+  parameter_back (t ∷ before) i e =
+      choice (is_hash t) (hash_operand t i) (substituted p i) (ap (λ b. hash_operand (nearest_or p.token b) i) e) (substituted_back i)
 
-  by_agrees : (o : Option ℕ) → parameter_at d p.token ≡ o → Agrees (role_by p o)
-  by_agrees None e = none_agrees itself refl refl refl refl
-  by_agrees (Some j) e = parameter_agrees p.before j (at_index j e)
+  by_back : (o : Option ℕ) → Back (role_by p o)
+  by_back None = refl
+  by_back (Some i) = parameter_back p.before i refl
 
-  standard_agrees : Agrees (standard_role d p)
-  standard_agrees =
+  standard_back : Back (standard_role d p)
+  standard_back =
       choice (is_paste p.token) paste (if is_hash p.token && begins_with (is_parameter d) p.after then hash else role_by p (parameter_at d p.token))
-      (none_agrees paste refl refl refl refl)
-      (choice (is_hash p.token && begins_with (is_parameter d) p.after) hash (role_by p (parameter_at d p.token)) (none_agrees hash refl refl refl refl)
-      (by_agrees (parameter_at d p.token) refl))
+      refl
+      (choice (is_hash p.token && begins_with (is_parameter d) p.after) hash (role_by p (parameter_at d p.token)) refl (by_back (parameter_at d p.token)))
 
-  index_by : (o : Option ℕ) → parameter_at d p.token ≡ o → is_index (variable_index d) o ≡ true → (i == variable_index d) ≡ is_index i o
-  index_by None e h = absurd cc
-  index_by (Some j) e h = let same : variable_index d ≡ j = grind (arith, nat_tests, h) in ap (λ x. i == x) same
-
-  ends_variable : (before : List Token) → ends_gnu_comma d before (p.token ∷ p.after) ≡ true → is_variable d p.token ≡ true
-  ends_variable [] h = absurd cc
-  ends_variable (t ∷ []) h = absurd cc
-  ends_variable (t ∷ u ∷ before) h =
-      third (is_comma u) (is_paste t) (is_variable d p.token) (not (begins_with is_paste before)) (not (begins_with is_paste p.after)) h
-    where
-      third : (a b c e f : Bool) → (a && b && c && e && f) ≡ true → c ≡ true
-      third true true true e f h = refl
-      third true true false e f h = absurd cc
-      third true false c e f h = absurd cc
-      third false b c e f h = absurd cc
-
-  choice_if : (b : Bool) (r s : Role) → (b ≡ true → Agrees r) → Agrees s → Agrees (if b then r else s)
-  choice_if true r s a b = a refl
-  choice_if false r s a b = b
-
-  role_agrees : Agrees (role_of d p)
+  pub role_back : role_at p (code_of (role_of d p)) ≡ role_of d p
   unfolding role_of
-  role_agrees =
+  role_back =
       choice (is_gnu_comma d p.before (p.token ∷ p.after)) gnu_comma
       (if follows_gnu_comma d p.before (p.token ∷ p.after) then gnu_paste
       else if ends_gnu_comma d p.before (p.token ∷ p.after) then gnu_variable (variable_index d) else standard_role d p)
-      (none_agrees gnu_comma refl refl refl refl)
+      refl
       (choice (follows_gnu_comma d p.before (p.token ∷ p.after)) gnu_paste
       (if ends_gnu_comma d p.before (p.token ∷ p.after) then gnu_variable (variable_index d) else standard_role d p)
-      (none_agrees gnu_paste refl refl refl refl)
-      (choice_if (ends_gnu_comma d p.before (p.token ∷ p.after)) (gnu_variable (variable_index d)) (standard_role d p)
-      (λ h. variable_agrees (variable_index d) (index_by (parameter_at d p.token) refl (ends_variable p.before h)))
-      standard_agrees))
+      refl
+      (choice (ends_gnu_comma d p.before (p.token ∷ p.after)) (gnu_variable (variable_index d)) (standard_role d p) refl standard_back))
 
-pub takes_expanded_is : (d : Definition) (p : Position) (i : ℕ) → takes_expanded i (role_of d p) ≡ (is_index i (parameter_at d p.token) && is_role_expanded (role_of d p))
-takes_expanded_is d p i = (role_agrees d p i).0
+-- ---- what the code keeps of a body
 
-pub takes_given_is : (d : Definition) (p : Position) (i : ℕ) → takes_given i (role_of d p) ≡ (is_index i (parameter_at d p.token) && is_role_given (role_of d p))
-takes_given_is d p i = (role_agrees d p i).1
+-- what is kept of the positions so far, where these are left
+pub record AreUsesSoFar (d : Definition) (roles : List code_role.Role) (wide raw : List Bool) (rest : List Position) : Type 0 where
+  pub all_roles : roles ++ map (λ p. code_of (role_of d p)) rest ≡ roles_of d
+  pub all_expanded : (i : ℕ) → (list_any (λ p. takes_expanded i (role_of d p)) rest || get_or wide i false) ≡ is_expanded d i
+  pub all_raw : (i : ℕ) → (list_any (λ p. takes_given i (role_of d p)) rest || get_or raw i false) ≡ is_raw d i
+
+or_none : (b : Bool) → (b || false) ≡ b
+or_none true = refl
+or_none false = refl
+
+or_swap : (a b c : Bool) → (b || (a || c)) ≡ ((a || b) || c)
+or_swap true true c = refl
+or_swap true false c = refl
+or_swap false b c = refl
+
+pub uses_begin : (d : Definition) (roles : List code_role.Role) (wide raw : List Bool) (positions : List Position) → roles ≡ [] → wide ≡ [] → raw ≡ []
+    → positions ≡ positions_of d.body → AreUsesSoFar d roles wide raw positions
+unfolding is_expanded is_raw
+uses_begin d roles wide raw positions r e w h = record {
+  all_roles = ap₂ (λ x y. x ++ map (λ p. code_of (role_of d p)) y) r h;
+  all_expanded = λ i. ap₂ (λ x y. list_any (λ p. takes_expanded i (role_of d p)) y || get_or x i false) e h ∙ or_none _;
+  all_raw = λ i. ap₂ (λ x y. list_any (λ p. takes_given i (role_of d p)) y || get_or x i false) w h ∙ or_none _;
+}
+
+-- one position more
+flag_more : (test : Position → Bool) (old new noted all : Bool) (positions rest : List Position) (p : Position) → (list_any test positions || old) ≡ all
+    → positions ≡ p ∷ rest → new ≡ (noted || old) → noted ≡ test p → (list_any test rest || new) ≡ all
+flag_more test old new noted all positions rest p h e f n =
+    ap (λ x. list_any test rest || x) (f ∙ ap (λ x. x || old) n) ∙ (or_swap (test p) (list_any test rest) old ∙ (ap (λ x. list_any test x || old) (sym e) ∙ h))
+
+pub uses_more : (d : Definition) (roles roles' : List code_role.Role) (wide wide' raw raw' : List Bool) (positions rest : List Position) (p : Position) (r : code_role.Role)
+    → AreUsesSoFar d roles wide raw positions → positions ≡ p ∷ rest → r ≡ code_of (role_of d p)
+    → ((q : Position) (i : ℕ) → get_or wide' i false ≡ (takes_expanded i (role_at q r) || get_or wide i false))
+    → ((q : Position) (i : ℕ) → get_or raw' i false ≡ (takes_given i (role_at q r) || get_or raw i false))
+    → roles' ≡ roles ++ r ∷ [] → AreUsesSoFar d roles' wide' raw' rest
+uses_more d roles roles' wide wide' raw raw' positions rest p r h e f x w m =
+    let back : role_at p r ≡ role_of d p = ap (role_at p) f ∙ role_back d p in
+    record {
+      all_roles = ap (λ y. y ++ map (λ q. code_of (role_of d q)) rest) m
+          ∙ (append_assoc roles (r ∷ []) (map (λ q. code_of (role_of d q)) rest)
+          ∙ (ap (λ y. roles ++ y ∷ map (λ q. code_of (role_of d q)) rest) f ∙ (ap (λ y. roles ++ map (λ q. code_of (role_of d q)) y) (sym e) ∙ h.all_roles)));
+      all_expanded = λ i. flag_more (λ q. takes_expanded i (role_of d q)) (get_or wide i false) (get_or wide' i false) (takes_expanded i (role_at p r)) (is_expanded d i)
+          positions rest p (h.all_expanded i) e (x p i) (ap (takes_expanded i) back);
+      all_raw = λ i. flag_more (λ q. takes_given i (role_of d q)) (get_or raw i false) (get_or raw' i false) (takes_given i (role_at p r)) (is_raw d i)
+          positions rest p (h.all_raw i) e (w p i) (ap (takes_given i) back);
+    }
+
+pub uses_end : (d : Definition) (uses : Uses) (rest : List Position) → AreUsesSoFar d uses.roles.items uses.expanded.items uses.raw.items rest → rest ≡ [] → AreUses d uses
+uses_end d uses rest h e = record {
+  roles = sym (append-nil uses.roles.items) ∙ (ap (λ y. uses.roles.items ++ map (λ p. code_of (role_of d p)) y) (sym e) ∙ h.all_roles);
+  expanded = λ i. ap (λ y. list_any (λ p. takes_expanded i (role_of d p)) y || get_or uses.expanded.items i false) (sym e) ∙ h.all_expanded i;
+  raw = λ i. ap (λ y. list_any (λ p. takes_given i (role_of d p)) y || get_or uses.raw.items i false) (sym e) ∙ h.all_raw i;
+}
+
+-- a flag more that is not set, and one that is
+pub unset_more : (flags : List Bool) (i : ℕ) → get_or (flags ++ false ∷ []) i false ≡ get_or flags i false
+unset_more [] zero = refl
+unset_more [] (suc i) = refl
+unset_more (f ∷ flags) zero = refl
+unset_more (f ∷ flags) (suc i) = unset_more flags i
+
+pub set_one : (flags : List Bool) (index i : ℕ) → index < length flags → get_or (set flags index true) i false ≡ ((i == index) || get_or flags i false)
+set_one flags index i h =
+    ⊎_elim
+    (λ (t : (i == index) ≡ true).
+    let same : i ≡ index = grind (arith, nat_tests, t) in
+    ap (λ n. get_or (set flags index true) n false) same ∙ (get_or-set_same flags index true false h ∙ sym (ap (λ x. x || get_or flags i false) t)))
+    (λ (f : (i == index) ≡ false).
+    get_or-set_other flags index i true false (λ same. absurd (differ same f)) ∙ sym (ap (λ x. x || get_or flags i false) f))
+    (cases_Bool (i == index))
+  where
+    differ : i ≡ index → (i == index) ≡ false → ⊥
+    differ same f = absurd (grind (arith, nat_tests, same, f))
 
 -- ---- a replacement list without GNU's comma
 
@@ -174,3 +198,26 @@ pub without_gnu_comma : (d : Definition) (arguments : Arguments) (done : List (L
     → substitutes_of d arguments done ≡ standard_substitutes_of d arguments done
 unfolding substitutes_of
 without_gnu_comma d arguments done none = substitutes_from d none arguments done [] d.body refl
+
+-- ---- a body and its roles, side by side
+
+abbrev pub rest_roles : Definition → List Position → List code_role.Role
+rest_roles d positions = map (λ p. code_of (role_of d p)) positions
+
+pub next_role : (d : Definition) (roles after : List code_role.Role) (positions rest : List Position) (p : Position) (r : code_role.Role) → roles ≡ rest_roles d positions
+    → positions ≡ p ∷ rest → roles ≡ r ∷ after → (role_at p r ≡ role_of d p) × (after ≡ rest_roles d rest)
+next_role d roles after positions rest p r h e n =
+    let both : r ∷ after ≡ code_of (role_of d p) ∷ rest_roles d rest = sym n ∙ (h ∙ ap (rest_roles d) e) in
+    let one : r ≡ code_of (role_of d p) = cc in
+    let others : after ≡ rest_roles d rest = cc in
+    (ap (role_at p) one ∙ role_back d p, others)
+
+-- what stands for one position more
+pub put_in_more : (d : Definition) (arguments : Arguments) (done : List (List Token)) (out new all : List Substitute) (positions rest : List Position) (p : Position) (r : Role)
+    → out ++ flat_map (λ q. substitutes_by arguments done q.token (role_of d q)) positions ≡ all → positions ≡ p ∷ rest
+    → new ≡ out ++ substitutes_by arguments done p.token r → r ≡ role_of d p
+    → new ++ flat_map (λ q. substitutes_by arguments done q.token (role_of d q)) rest ≡ all
+put_in_more d arguments done out new all positions rest p r h e n is =
+    ap (λ x. x ++ flat_map (λ q. substitutes_by arguments done q.token (role_of d q)) rest) (n ∙ ap (λ x. out ++ substitutes_by arguments done p.token x) is)
+    ∙ (append_assoc out (substitutes_by arguments done p.token (role_of d p)) (flat_map (λ q. substitutes_by arguments done q.token (role_of d q)) rest)
+    ∙ (ap (λ y. out ++ flat_map (λ q. substitutes_by arguments done q.token (role_of d q)) y) (sym e) ∙ h))

@@ -1,5 +1,5 @@
 -- What is ahead in a list, cut into segments.
-use Rattle.std.proofs.Common.{◌≡◌, ℕ, zero, suc, ◌+◌, ◌-◌, ◌<◌, ◌≤◌, Bool, true, false, cond, List, [], ◌∷◌, ◌++◌, Option, Some, None, MatchOption, length, take, drop, refl, sym, ◌∙◌, ap, ap₂, subst, arith}
+use Rattle.std.proofs.Common.{◌≡◌, ℕ, zero, suc, ◌+◌, ◌-◌, ◌<◌, ◌≤◌, Bool, true, false, not, cond, List, [], ◌∷◌, ◌++◌, Option, Some, None, MatchOption, length, take, drop, refl, sym, ◌∙◌, ap, ap₂, subst, arith}
 use Rattle.std.proofs.lemmas.List.{nil_from_length, take_at}
 use Rattle.std.proofs.Math.Seq.{drop-append-add, drop-append_seam, drop-nil, take-append-add, take-append_seam}
 use Rattle.cx_tokens.specs.declared.token.Token.{Token}
@@ -21,6 +21,79 @@ replaced old new s item rest (Some x) e h = h.2 ∙ ap (λ t. item ∷ t) (tails
 -- where no token is left, the count of the first segment does not tell
 pub more_none : (s s' : Segment) (rest : List Segment) → more_of (s ∷ rest) [] ≡ more_of (s' ∷ rest) []
 more_none s s' rest = ap (λ t. ahead_of rest t ∷ more_of rest t) (drop-nil (extent s) ∙ sym (drop-nil (extent s')))
+
+-- the first token of the first segment is the first ahead
+pub first_ahead : (segments : List Segment) (ts : List Token) (t : Token) (rest : List Token) → ahead_of segments ts ≡ t ∷ rest
+    → (behind : List Token) × (ts ≡ t ∷ behind)
+first_ahead [] ts t rest e = (rest, e)
+first_ahead (s ∷ ss) ts t rest e = at s.tokens ts e
+  where
+    at : (n : ℕ) (ts : List Token) → take n ts ≡ t ∷ rest → (behind : List Token) × (ts ≡ t ∷ behind)
+    at zero ts e = absurd cc
+    at (suc n) [] e = absurd cc
+    at (suc n) (x ∷ xs) e = let same : x ≡ t = cc in (xs, ap (λ y. y ∷ xs) same)
+
+ahead_none : (ss : List Segment) → ahead_of ss [] ≡ []
+ahead_none [] = refl
+ahead_none (s ∷ ss) = at s.tokens
+  where
+    at : (n : ℕ) → take {A = Token} n [] ≡ []
+    at zero = refl
+    at (suc n) = refl
+
+pub first_some : (ss : List Segment) (ts : List Token) → 0 < length (ahead_of ss ts) → (t : Token) × (rest : List Token) × (ts ≡ t ∷ rest)
+first_some ss [] l = absurd (let e = ap length (ahead_none ss) in omega (arith, l, e))
+first_some ss (t ∷ rest) l = (t, rest, refl)
+
+-- the first token is taken out
+pub popped : (old new : List Segment) (s s' : Standing) (r : Option Token)
+    → ((t : Token) (ts : List Token) → (ahead_of old (t ∷ ts) ≡ t ∷ ahead_of new ts) × (more_of old (t ∷ ts) ≡ more_of new ts))
+    → more_of new [] ≡ more_of old []
+    → MatchOption r ((s.ahead ≡ []) × (s' ≡ s)) (λ t. (s.ahead ≡ t ∷ s'.ahead) × (s'.done ≡ s.done))
+    → MatchOption r ((ahead_of old s.ahead ≡ []) × (spread_of new s' ≡ spread_of old s))
+    (λ t. (ahead_of old s.ahead ≡ t ∷ ahead_of new s'.ahead) × (s'.done ≡ s.done) × (more_of new s'.ahead ≡ more_of old s.ahead))
+popped old new s s' None one none h = (
+  ap (ahead_of old) h.0 ∙ ahead_none old,
+  ap (spread_of new) h.1
+      ∙ ap₂ (λ (x : List Token) (y : List (List Token)). record { done = s.done; ahead = x; more = y })
+      (ap (ahead_of new) h.0 ∙ (ahead_none new ∙ (sym (ahead_none old) ∙ ap (ahead_of old) (sym h.0))))
+      (ap (more_of new) h.0 ∙ (none ∙ ap (more_of old) (sym h.0))),
+)
+popped old new s s' (Some t) one none h =
+    let p = one t s'.ahead in
+    (ap (ahead_of old) h.0 ∙ p.0, h.1, sym p.1 ∙ ap (more_of old) (sym h.0))
+
+pub ended : (b : Bool) → not b ≡ false → b ≡ true
+ended true e = refl
+ended false e = absurd cc
+
+-- the segment behind the first is gone on to, over its end
+dropped_end : (n : ℕ) (ended : Bool) (t : Token) (x : List Token) → ended ≡ true → take n (t ∷ x) ≡ [] → drop (n + cond ended 1 0) (t ∷ x) ≡ x
+dropped_end zero ended t x e h = ap (λ b. drop (0 + cond b 1 0) (t ∷ x)) e
+dropped_end (suc n) ended t x e h = absurd cc
+
+pub advanced : (old new : List Segment) (s : Segment) (a a' : Standing) (r : Option Token) → old ≡ s ∷ new → s.is_ended ≡ true → ahead_of old a.ahead ≡ []
+    → MatchOption r ((a.ahead ≡ []) × (a' ≡ a)) (λ t. (a.ahead ≡ t ∷ a'.ahead) × (a'.done ≡ a.done))
+    → more_of old a.ahead ≡ ahead_of new a'.ahead ∷ more_of new a'.ahead
+advanced old new s a a' r o e n h =
+    ap (λ x. more_of x a.ahead) o ∙ ap (λ x. ahead_of new x ∷ more_of new x) (behind r h)
+  where
+    behind : (r : Option Token) → MatchOption r ((a.ahead ≡ []) × (a' ≡ a)) (λ t. (a.ahead ≡ t ∷ a'.ahead) × (a'.done ≡ a.done)) → drop (extent s) a.ahead ≡ a'.ahead
+    behind None h = ap (drop (extent s)) h.0 ∙ (drop-nil (extent s) ∙ (sym h.0 ∙ ap (λ (x : Standing). x.ahead) (sym h.1)))
+    behind (Some t) h =
+        ap (drop (extent s)) h.0
+        ∙ dropped_end s.tokens s.is_ended t a'.ahead e (ap (take s.tokens) (sym h.0) ∙ (ap (λ x. ahead_of x a.ahead) (sym o) ∙ n))
+
+pub next_segment : (ahead ahead' : List Token) (more more' : List (List Token)) → ahead ∷ more ≡ ahead' ∷ more' → (ahead ≡ ahead') × (more ≡ more')
+next_segment ahead ahead' more more' e = (cc, cc)
+
+-- it is passed
+pub passed : (old new : List Segment) (ahead after behind rest : List Token) (t : Token) → ahead ≡ t ∷ behind → after ≡ behind → ahead_of old ahead ≡ t ∷ rest
+    → (ahead_of old (t ∷ behind) ≡ t ∷ ahead_of new behind) × (more_of old (t ∷ behind) ≡ more_of new behind)
+    → (ahead_of new after ≡ rest) × (more_of new after ≡ more_of old ahead)
+passed old new ahead after behind rest t e f h p =
+    let all : t ∷ ahead_of new behind ≡ t ∷ rest = sym p.0 ∙ (ap (ahead_of old) (sym e) ∙ h) in
+    (ap (ahead_of new) f ∙ cc, ap (more_of new) f ∙ (sym p.1 ∙ ap (more_of old) (sym e)))
 
 -- tokens are put before those of the first segment
 pub counted_up : (old new : List Segment) (s : Segment) (n : ℕ) (rest : List Segment) (news ts : List Token) → old ≡ s ∷ rest
@@ -63,6 +136,10 @@ is_whole zero (t ∷ ts) = whole_first (is_close t) t ts (bracketed (cond (is_op
 is_whole (suc d) (t ∷ ts) =
     whole_inner t ts (bracketed (cond (is_close t) d (cond (is_open t) (suc (suc d)) (suc d))) ts)
     (is_whole (cond (is_close t) d (cond (is_open t) (suc (suc d)) (suc d))) ts)
+
+pub bracketed_whole_at : (depth : ℕ) (ts : List Token) (b : Bracketed) → bracketed depth ts ≡ Some b → ts ≡ b.inner ++ b.closing ∷ b.after
+unfolding IsWhole
+bracketed_whole_at depth ts b e = subst (IsWhole ts) e (is_whole depth ts)
 
 pub bracketed_whole : (ts : List Token) (b : Bracketed) → bracketed 0 ts ≡ Some b → ts ≡ b.inner ++ b.closing ∷ b.after
 unfolding IsWhole

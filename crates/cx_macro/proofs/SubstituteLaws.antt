@@ -1,13 +1,11 @@
 -- Replacement lists with their arguments put in, and what is kept of these.
-use Rattle.std.proofs.Common.{◌≡◌, ℕ, zero, suc, ◌+◌, ◌<◌, List, [], ◌∷◌, ◌++◌, Bool, true, false, if◌then◌else◌, ◌&&◌, ◌||◌, Option, Some, None, refl, sym, ◌∙◌, ap, ap₂, arith, bytes_eq, flat_map, get_or, length, position, take, ◌==◌}
+use Rattle.std.proofs.Common.{◌≡◌, ℕ, zero, suc, ◌+◌, ◌<◌, List, [], ◌∷◌, ◌++◌, Bool, true, false, if◌then◌else◌, ◌||◌, refl, sym, ◌∙◌, ap, ap₂, arith, flat_map, get_or, length, take, ◌==◌}
 use Rattle.std.proofs.lemmas.Bool.Decides.{nat_tests}
-use Rattle.std.proofs.lemmas.List.Quantifiers.{position-Some}
 use Rattle.std.specs.List.{list_any}
 use Rattle.cx_tokens.specs.declared.token.Token.{Token}
-use Rattle.cx_tokens.specs.Simplified.{is_name}
 use Rattle.cx_macro.specs.Arguments.{Arguments}
-use Rattle.cx_macro.specs.Macros.{Definition, index_among, index_of, parameter_at, variable_name}
-use Rattle.cx_macro.specs.Replacement.{Position, Role, expanded, given, gnu_comma, gnu_paste, gnu_variable, hash, hash_operand, is_index, itself, operand, paste, positions_of, role_of, string_of, substitutes_by, substitutes_of, with_space}
+use Rattle.cx_macro.specs.Macros.{Definition}
+use Rattle.cx_macro.specs.Replacement.{Position, Role, expanded, given, gnu_comma, gnu_paste, gnu_variable, hash, hash_operand, itself, operand, paste, positions_of, role_of, string_of, substitutes_by, substitutes_of, with_space}
 use Rattle.cx_macro.specs.Shapes.Roles.{takes_given}
 use Rattle.cx_macro.specs.Shapes.Substitutes.{is_raw, kept_of}
 
@@ -93,41 +91,3 @@ kept_next d i raw h =
   where
     next : (i : ℕ) → i + 1 ≡ suc i
     next i = omega arith
-
--- a token of another name than the parameter with an index
-named_apart : (variadic : Bool) (parameters : List (List ℕ)) (text name : List ℕ) (i : ℕ) (found : Option ℕ) → i < length parameters → get_or parameters i [] ≡ name
-    → bytes_eq text name ≡ false → ((j : ℕ) → found ≡ Some j → bytes_eq text (get_or parameters j []) ≡ true)
-    → is_index i (index_among variadic parameters text found) ≡ false
-named_apart variadic parameters text name i (Some j) l g e h = apart (i == j) refl
-  where
-    apart : (b : Bool) → (i == j) ≡ b → b ≡ false
-    apart true f =
-        let same : i ≡ j = grind (arith, nat_tests, f) in
-        absurd (no_both (bytes_eq text name) (ap (bytes_eq text) (sym g ∙ ap (λ k. get_or parameters k []) same) ∙ h j refl) e)
-      where
-        no_both : (b : Bool) → b ≡ true → b ≡ false → ⊥
-        no_both b t f = absurd cc
-    apart false f = refl
-named_apart variadic parameters text name i None l g e h = last (variadic && bytes_eq text variable_name)
-  where
-    last : (b : Bool) → is_index i (if b then Some (length parameters) else None) ≡ false
-    last true = grind (arith, nat_tests, l)
-    last false = refl
-
-pub not_parameter : (d : Definition) (parameters : List (List ℕ)) (t : Token) (name : List ℕ) (i : ℕ) → d.parameters ≡ Some parameters → i < length parameters
-    → get_or parameters i [] ≡ name → bytes_eq t.text name ≡ false → is_index i (parameter_at d t) ≡ false
-unfolding parameter_at
-not_parameter d parameters t name i p l g e = rw p (by (is_name t.kind))
-  where
-    by : (b : Bool) → is_index i (if b then index_of d.variadic (Some parameters) t.text else None) ≡ false
-    by true = named_apart d.variadic parameters t.text name i (position (bytes_eq t.text) parameters) l g e
-        (λ j f. (position-Some (bytes_eq t.text) parameters j [] f).1)
-    by false = refl
-
-pub no_parameter : (d : Definition) (t : Token) (i : ℕ) → d.parameters ≡ None → is_index i (parameter_at d t) ≡ false
-unfolding parameter_at
-no_parameter d t i p = rw p (by (is_name t.kind))
-  where
-    by : (b : Bool) → is_index i (if b then None else None) ≡ false
-    by true = refl
-    by false = refl

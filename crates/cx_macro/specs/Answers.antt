@@ -8,5 +8,5 @@ use Rattle.cx_macro.specs.Expansion.{Outcome, expanded, refused}
 
 -- the answer is an outcome, or memory ran out
 abbrev pub Answers : Outcome → Result Expanded MacroFault → Type 0
-Answers outcome (Ok x) = outcome ≡ expanded (tokens x.list) x.laid
+Answers outcome (Ok x) = outcome ≡ expanded (tokens x.list.nodes) x.laid
 Answers outcome (Err fault) = (outcome ≡ refused fault) ⊎ (fault ≡ NoMemory)

@@ -4,4 +4,4 @@ use Rattle.cx_macro.specs.declared.macros.Macro.{Macro}
 use Rattle.cx_macro.specs.Macros.{Definition}
 
 abbrev pub definition_by : Macro → Definition
-definition_by m = record { parameters = m.parameters; variadic = m.variadic; body = tokens m.body }
+definition_by m = record { parameters = m.parameters; variadic = m.variadic; body = tokens m.body.nodes }

@@ -1,87 +1,63 @@
-//! Calls of function-like macros and their arguments (C11 6.10.3, paragraphs 4 and 10 to 12).
-ghost use Rattle.std.specs.Prelude.{◌≡◌, ◌+◌, ◌<◌, [], ◌∷◌, ◌⊎◌, true, IfOk, MatchOption, None, Some, is_none, length, List as list, ◌==◌, ◌&&◌, ◌||◌};
+//! The arguments of calls of function-like macros (C11 6.10.3, paragraphs 4 and 10 to 12).
+ghost use Rattle.std.specs.Prelude.{◌≡◌, ◌<◌, [], ◌∷◌, ◌⊎◌, true, IfOk, MatchOption, None, Some, Option as option, is_none, length, List as list, ◌||◌, reverse};
 ghost use Rattle.cx_tokens.specs.declared.token.Token.{Token as token_type};
-ghost use Rattle.cx_macro.specs.Arguments.{Bracketed, is_close as closes_bracket, is_comma as is_comma_token};
 ghost use Rattle.cx_macro.specs.Shapes.Counting as counting;
-ghost use Rattle.cx_macro.specs.Shapes.Calls.{deeper};
+ghost use Rattle.cx_macro.specs.Shapes.Frames.{IsAfter, IsInner};
 ghost use Rattle.cx_macro.specs.Shapes.Segments.{Cuts, CutsText, left_behind};
 
-use crate::marks::{is_close, is_comma, is_open};
 use crate::segment::Segment;
-use crate::walk::{Walk, one_more};
 use cx_base::NoMemory;
-use cx_tokens::Token;
 use std::alloc::Global;
 
-/// How many brackets are open behind a token, where so many are open before it.
-#[tactic(auto, unfolding(crate::specs::Shapes::Calls::deeper))]
-fn deeper(depth: usize, token: &Token) -> Result<usize, NoMemory>
-    ensures { IfOk result (λ d. d ≡ deeper depth token.now) }
-{
-    if is_open(token) {
-        return depth.checked_add(1).ok_or(NoMemory);
-    }
-    if is_close(token) {
-        Ok(depth.saturating_sub(1))
-    } else {
-        Ok(depth)
+/// What is left of the tokens between a call's brackets.
+#[derive(Clone, Copy)]
+pub(crate) struct Inner<'a> {
+    /// How many tokens of the list are left, those behind the brackets too.
+    pub(crate) left: usize,
+    /// How many stand behind the closing bracket.
+    pub(crate) behind: usize,
+    /// How many stand behind each comma that is left outside of inner brackets, the first comma
+    /// last.
+    pub(crate) commas: &'a [usize],
+}
+
+impl<'a> Inner<'a> {
+    /// How many tokens these are.
+    pub(crate) fn len(&self) -> usize
+        ensures { (ts : list token_type) (end : list token_type) → IsInner self.now ts end
+            → result ≡ length ts }
+    {
+        self.left.saturating_sub(self.behind).saturating_sub(1)
     }
 }
 
-/// Whether a token is the closing bracket, where so many more are open inside.
-fn closes(depth: usize, token: &Token) -> bool
-    ensures { result ≡ ((depth == 0) && closes_bracket token.now) }
+/// The first comma, and those behind it.
+fn first_comma<'a>(commas: &'a [usize]) -> Option<(usize, &'a [usize])>
+    ensures { MatchOption result (reverse commas.now ≡ [])
+        (λ x. reverse commas.now ≡ x.0 ∷ reverse x.1.now) }
 {
-    depth == 0 && is_close(token)
+    let (comma, rest) = commas.split_last()?;
+    Some((*comma, rest))
 }
 
-/// Whether a token parts two arguments, where so many brackets are open.
-fn parts(depth: usize, token: &Token) -> bool
-    ensures { result ≡ ((depth == 0) && is_comma_token token.now) }
+/// How many tokens stand before the first comma outside of brackets, and what is left behind it,
+/// where it is there.
+fn cut_at_comma<'a>(text: Inner<'a>) -> (usize, Option<Inner<'a>>)
+    ensures { (ts : list token_type) (end : list token_type) → IsInner text.entry ts end
+        → (front : list token_type) × (after : option (list token_type))
+        × (counting.cut_at_comma 0 ts ≡ record { front = front; after = after })
+        × (result.0 ≡ length front) × IsAfter result.1 after end }
 {
-    depth == 0 && is_comma(token)
-}
-
-/// How many tokens stand between an opening bracket that was passed and its closing one, and that
-/// one, where it is there.
-pub(crate) fn bracketed<'a>(text: Walk<'a>) -> Result<Option<(usize, &'a Token)>, NoMemory>
-    ensures { IfOk result
-        (λ found. MatchOption found (counting.bracketed 0 text.entry ≡ None)
-        (λ x. (b : Bracketed) × (counting.bracketed 0 text.entry ≡ Some b) × (x.0 ≡ length b.inner)
-        × (x.1.now ≡ b.closing))) }
-{
-    let mut text = text;
-    let mut inner: usize = 0;
-    let mut depth = 0;
-    while let Some(token) = text.next() {
-        if closes(depth, token) {
-            return Ok(Some((inner, token)));
-        }
-        depth = deeper(depth, token)?;
-        inner = one_more(inner)?;
-    }
-    Ok(None)
-}
-
-/// How many tokens stand before the first comma outside of brackets, and those behind it, where it
-/// is there.
-fn cut_at_comma<'a>(text: Walk<'a>) -> Result<(usize, Option<Walk<'a>>), NoMemory>
-    ensures { IfOk result
-        (λ x. (front : list token_type)
-        × (counting.cut_at_comma 0 text.entry ≡ record { front = front; after = x.1 })
-        × (x.0 ≡ length front)) }
-{
-    let mut text = text;
-    let mut front: usize = 0;
-    let mut depth = 0;
-    while let Some(token) = text.next() {
-        if parts(depth, token) {
-            return Ok((front, Some(text)));
-        }
-        depth = deeper(depth, token)?;
-        front = one_more(front)?;
-    }
-    Ok((front, None))
+    let Some((comma, commas)) = first_comma(text.commas) else {
+        return (text.len(), None);
+    };
+    let front = text.left.saturating_sub(comma).saturating_sub(1);
+    let after = Inner {
+        left: comma,
+        behind: text.behind,
+        commas,
+    };
+    (front, Some(after))
 }
 
 /// The segments of what the named parameters are given, and what stands behind the comma behind
@@ -89,21 +65,22 @@ fn cut_at_comma<'a>(text: Walk<'a>) -> Result<(usize, Option<Walk<'a>>), NoMemor
 #[derive(Drop)]
 struct Named<'a> {
     segments: Vec<Segment>,
-    after: Option<Walk<'a>>,
+    after: Option<Inner<'a>>,
 }
 
 /// As many arguments as parameters have names.
 fn named_arguments<'a>(
     alloc: Global,
     count: usize,
-    text: Walk<'a>,
+    text: Inner<'a>,
 ) -> Result<Option<Named<'a>>, NoMemory>
     ensures { IfOk result
-        (λ found. MatchOption found (counting.named_arguments count (Some text.entry) ≡ None)
-        (λ x. (raw : list (list token_type))
-        × (counting.named_arguments count (Some text.entry)
-        ≡ Some (record { arguments = raw; after = x.after }))
-        × CutsText x.segments.items text.entry raw x.after)) }
+        (λ found. (ts : list token_type) (end : list token_type) → IsInner text.entry ts end
+        → MatchOption found (counting.named_arguments count (Some ts) ≡ None)
+        (λ x. (raw : list (list token_type)) × (after : option (list token_type))
+        × (counting.named_arguments count (Some ts)
+        ≡ Some (record { arguments = raw; after = after }))
+        × CutsText x.segments.items ts raw after × IsAfter x.after after end)) }
 {
     let mut segments = Vec::new(alloc);
     let mut after = Some(text);
@@ -112,7 +89,7 @@ fn named_arguments<'a>(
         let Some(text) = after else {
             return Ok(None);
         };
-        let (tokens, rest) = cut_at_comma(text)?;
+        let (tokens, rest) = cut_at_comma(text);
         segments.push(Segment {
             tokens,
             is_ended: true,
@@ -125,21 +102,21 @@ fn named_arguments<'a>(
 
 /// The segment of the variable argument: empty where no comma stands before it (C11 6.10.3,
 /// paragraph 12).
-fn variable<'a>(after: Option<Walk<'a>>) -> Result<Segment, NoMemory>
-    ensures { IfOk result
-        (λ s. (closing : token_type) (rest : list token_type)
-        → Cuts (s ∷ []) (left_behind after.entry closing rest)
-        (counting.tokens_or_none after.entry ∷ []) rest) }
+fn variable(after: Option<Inner>) -> Segment
+    ensures { (behind : option (list token_type)) (end : list token_type)
+        → IsAfter after.entry behind end → (closing : token_type) (rest : list token_type)
+        → Cuts (result ∷ []) (left_behind behind closing rest)
+        (counting.tokens_or_none behind ∷ []) rest }
 {
     match after {
-        None => Ok(Segment {
+        None => Segment {
             tokens: 0,
             is_ended: false,
-        }),
-        Some(text) => Ok(Segment {
-            tokens: text.count()?,
+        },
+        Some(text) => Segment {
+            tokens: text.len(),
             is_ended: true,
-        }),
+        },
     }
 }
 
@@ -152,16 +129,18 @@ pub(crate) struct ArgumentSegments {
 }
 
 /// Whether nothing stands between the brackets of a call of a macro without named parameters.
-fn is_nothing(count: usize, inner: &Walk) -> bool
-    ensures { result ≡ counting.is_nothing count inner.now }
+fn is_nothing(count: usize, inner: &Inner) -> bool
+    ensures { (ts : list token_type) (end : list token_type) → IsInner inner.now ts end
+        → result ≡ counting.is_nothing count ts }
 {
-    count == 0 && inner.is_empty()
+    count == 0 && inner.len() == 0
 }
 
 /// Whether a call leaves the variable argument out: no comma stands before it, or nothing between
 /// the brackets at all.
-fn is_left_out(nothing: bool, after: &Option<Walk>) -> bool
-    ensures { result ≡ (nothing || is_none after.now) }
+fn is_left_out(nothing: bool, after: &Option<Inner>) -> bool
+    ensures { (behind : option (list token_type)) (end : list token_type)
+        → IsAfter after.now behind end → result ≡ (nothing || is_none behind) }
 {
     nothing || after.is_none()
 }
@@ -173,22 +152,23 @@ fn with_variable<'a>(
     named: Named<'a>,
 ) -> Result<Option<ArgumentSegments>, NoMemory>
     ensures { IfOk result
-        (λ found. MatchOption found
+        (λ found. (after : option (list token_type)) (end : list token_type)
+        → IsAfter named.entry.after after end → MatchOption found
         ((raw : list (list token_type))
         → counting.with_variable variadic nothing
-        (Some (record { arguments = raw; after = named.entry.after })) ≡ None)
+        (Some (record { arguments = raw; after = after })) ≡ None)
         (λ a. (text : list token_type) (raw : list (list token_type))
-        → CutsText named.entry.segments.items text raw named.entry.after
+        → CutsText named.entry.segments.items text raw after
         → (all : list (list token_type))
         × (counting.with_variable variadic nothing
-        (Some (record { arguments = raw; after = named.entry.after }))
+        (Some (record { arguments = raw; after = after }))
         ≡ Some (record { given = all; left_out = a.left_out }))
         × CutsText a.segments.items text all None)) }
 {
     let mut segments = named.segments;
     if variadic {
         let left_out = is_left_out(nothing, &named.after);
-        segments.push(variable(named.after)?)?;
+        segments.push(variable(named.after))?;
         return Ok(Some(ArgumentSegments { segments, left_out }));
     }
     match named.after {
@@ -202,20 +182,20 @@ fn with_variable<'a>(
 
 /// The segments of the arguments of a call with these tokens between its brackets: one for each
 /// parameter, and behind them the variable one; or `None` where their number does not fit.
-#[tactic(auto, unfolding(crate::specs::Shapes::Counting::arguments_of))]
 pub(crate) fn arguments_of<'a>(
     alloc: Global,
     count: usize,
     variadic: bool,
-    inner: Walk<'a>,
+    inner: Inner<'a>,
 ) -> Result<Option<ArgumentSegments>, NoMemory>
     requires { (0 < count) ⊎ (variadic ≡ true) }
     ensures { IfOk result
-        (λ found. MatchOption found (counting.arguments_of count variadic inner.entry ≡ None)
+        (λ found. (ts : list token_type) (end : list token_type) → IsInner inner.entry ts end
+        → MatchOption found (counting.arguments_of count variadic ts ≡ None)
         (λ a. (raw : list (list token_type))
-        × (counting.arguments_of count variadic inner.entry
+        × (counting.arguments_of count variadic ts
         ≡ Some (record { given = raw; left_out = a.left_out }))
-        × CutsText a.segments.items inner.entry raw None)) }
+        × CutsText a.segments.items ts raw None)) }
 {
     let nothing = is_nothing(count, &inner);
     match named_arguments(alloc, count, inner)? {

@@ -1,5 +1,5 @@
 //! Calls whose arguments are being expanded.
-ghost use Rattle.std.specs.Prelude.{◌≡◌, ◌≢◌, ◌+◌, ◌<◌, ◌≤◌, [], ℕ, if◌then◌else◌, length, IfOk, IfErr};
+ghost use Rattle.std.specs.Prelude.{◌≡◌, ◌≢◌, ◌+◌, ◌<◌, ◌≤◌, [], ℕ, if◌then◌else◌, length, IfOk, IfErr, OnOk};
 ghost use Rattle.cx_macro.specs.Macros.{Table};
 ghost use Rattle.cx_macro.specs.Shapes.Substitutes.{is_raw};
 ghost use Rattle.cx_macro.specs.Shapes.Steps.{FailsBehind, FailsIn, Proceeds, Resumes, wanted_argument};
@@ -9,7 +9,6 @@ use crate::buffer::Buffer;
 use crate::expansion::{Call, State};
 use crate::fault::MacroFault;
 use crate::replacing::replacement;
-use crate::roles::{is_expanded, is_raw};
 use crate::stack::Stack;
 use crate::stored::Stored;
 use crate::substitutes::Arguments;
@@ -48,7 +47,7 @@ fn kept(
     ensures { IfOk result (λ l.
         l ≡ (if is_raw (definition_of stored.now) index then buffer.now.ahead else [])) }
 {
-    if is_raw(stored, index) {
+    if stored.is_raw(index) {
         buffer.walk().copies(alloc)
     } else {
         Ok(List::new(alloc))
@@ -56,15 +55,16 @@ fn kept(
 }
 
 /// Takes the argument ahead out of the list, where it is not to be expanded.
-fn take_unwanted(buffer: &mut Buffer, stored: &Stored, index: usize)
-    ensures done { buffer.new.done ≡ buffer.old.done }
-    ensures ahead { buffer.new.ahead
-        ≡ wanted_argument (definition_of stored.now) index buffer.old.ahead }
-    ensures more { buffer.new.more ≡ buffer.old.more }
+fn take_unwanted(buffer: &mut Buffer, stored: &Stored, index: usize) -> Result<(), NoMemory>
+    ensures done { OnOk result (buffer.new.done ≡ buffer.old.done) }
+    ensures ahead { OnOk result (buffer.new.ahead
+        ≡ wanted_argument (definition_of stored.now) index buffer.old.ahead) }
+    ensures more { OnOk result (buffer.new.more ≡ buffer.old.more) }
 {
-    if !is_expanded(stored, index) {
-        buffer.clear();
+    if stored.is_expanded(index) {
+        return Ok(());
     }
+    buffer.clear()
 }
 
 /// Begins the next argument of a call, which is the segment ahead.
@@ -85,7 +85,7 @@ fn begin<'a>(
     let mut calls = calls;
     let index = call.expanded.len();
     let kept = kept(alloc, &buffer, call.stored, index)?;
-    take_unwanted(&mut buffer, call.stored, index);
+    take_unwanted(&mut buffer, call.stored, index)?;
     call.raw.push(kept)?;
     calls.push(call)?;
     Ok(State {
@@ -119,7 +119,7 @@ fn finish<'a>(
     let news = replacement(alloc, call.stored, arguments, &call.name, &call.hide)?;
     let laid = count(laid, bound, &call.name, news.as_slice())?;
     let mut buffer = buffer;
-    buffer.put(news)?;
+    buffer.put(alloc, news)?;
     Ok(State {
         laid,
         buffer,
@@ -171,6 +171,6 @@ pub(crate) fn resume<'a>(
     let mut buffer = buffer;
     let mut call = call;
     call.expanded.push(done)?;
-    buffer.advance();
+    buffer.advance()?;
     proceed(alloc, bound, laid, buffer, call, calls)
 }

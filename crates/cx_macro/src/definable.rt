@@ -37,7 +37,8 @@ impl Macro {
     /// names.
     fn hashes_stand(&self, names: &NameTable<()>) -> bool
         requires { self.now.parameters ≡ Some (names_of names.now) }
-        ensures { result ≡ macros.hashes_stand (definition_by self.now) (tokens self.now.body) }
+        ensures { result
+            ≡ macros.hashes_stand (definition_by self.now) (tokens self.now.body.nodes) }
     {
         let mut walk = Walk::over(&self.body);
         let mut is_after_hash = false;

@@ -2,7 +2,7 @@
 use crate::buffer::Buffer;
 use crate::stack::Stack;
 use crate::stored::Stored;
-use cx_base::{List, Text};
+use cx_base::{List, SharedList, Text};
 use cx_tokens::{Token, TokenList};
 
 /// A call whose arguments are expanded before it is replaced.
@@ -11,7 +11,7 @@ pub(crate) struct Call<'a> {
     pub(crate) name: Token,
     pub(crate) stored: &'a Stored,
     /// What the tokens that replace it hide.
-    pub(crate) hide: List<Text>,
+    pub(crate) hide: SharedList<Text>,
     /// How many arguments it has.
     pub(crate) arguments: usize,
     /// Whether it leaves the variable argument out.
@@ -47,4 +47,13 @@ pub(crate) enum Meaning<'a> {
     Itself,
     Line,
     Macro(&'a Stored),
+}
+
+/// What replaces a token.
+#[derive(Clone, Copy)]
+pub(crate) enum Invoked<'a> {
+    Line,
+    Object(&'a Stored),
+    /// A function-like macro, with its parameters, whose opening bracket is there.
+    Function(&'a Stored, &'a [Text]),
 }

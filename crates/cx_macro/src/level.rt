@@ -1,5 +1,5 @@
 //! Lists that are being expanded.
-ghost use Rattle.std.specs.Prelude.{◌≡◌, ℕ, List as list, [], ◌∷◌, ◌++◌, IfSome, MatchOption, OnOk, IsTrue};
+ghost use Rattle.std.specs.Prelude.{◌≡◌, ℕ, List as list, [], ◌∷◌, ◌++◌, IfSome, MatchOption, OnOk, IsTrue, false};
 ghost use Rattle.cx_tokens.specs.declared.token.Token.{Token as token_type};
 ghost use Rattle.cx_tokens.specs.Nodes.{first_of, is_live, tokens};
 ghost use Rattle.cx_macro.specs.Partners.{HasNoPartners};
@@ -27,16 +27,16 @@ impl Model for Level {
 
     ghost Value = { Standing };
 
-    ghost view = { λ l. standing_of l.last l.list };
+    ghost view = { λ l. standing_of l.last l.list.nodes };
 
-    ghost invariant = { λ l. IfSome l.last (λ n. IsTrue (is_live n l.list))
-        × HasNoPartners (nodes_done l.last l.list) };
+    ghost invariant = { λ l. IfSome l.last (λ n. IsTrue (is_live n l.list.nodes))
+        × HasNoPartners (nodes_done l.last l.list.nodes) };
 }
 
 impl Level {
     /// A list of which nothing is done.
     pub(crate) fn new(list: TokenList) -> Level
-        ensures { result ≡ record { done = []; ahead = tokens list } }
+        ensures { result ≡ record { done = []; ahead = tokens list.nodes } }
     {
         Level { list, last: None }
     }
@@ -59,8 +59,41 @@ impl Level {
         Some(self.list.erase(node))
     }
 
+    /// Passes the first token ahead, which is done then.
+    pub(crate) fn pass(&mut self) -> Result<(), NoMemory>
+        ensures { OnOk result ((token : token_type) (rest : list token_type)
+            → self.old.ahead ≡ token ∷ rest
+            → (self.new.done ≡ self.old.done ++ token ∷ []) × (self.new.ahead ≡ rest)) }
+    {
+        if self.pass_alone() {
+            return Ok(());
+        }
+        match self.pop() {
+            None => Ok(()),
+            Some(token) => self.keep(token),
+        }
+    }
+
+    /// Passes the first token ahead, where it has no partner.
+    fn pass_alone(&mut self) -> bool
+        ensures passed { IsTrue result → (token : token_type) (rest : list token_type)
+            → self.old.ahead ≡ token ∷ rest
+            → (self.new.done ≡ self.old.done ++ token ∷ []) × (self.new.ahead ≡ rest) }
+        ensures left { result ≡ false → self.new ≡ self.old }
+    {
+        self.list.are_numbered();
+        let Some(node) = node_ahead(&self.list, self.last) else {
+            return false;
+        };
+        if self.list.partner(node).is_some() {
+            return false;
+        }
+        self.last = Some(node);
+        true
+    }
+
     /// Puts a token behind those that are done, as done.
-    pub(crate) fn keep(&mut self, token: Token) -> Result<(), NoMemory>
+    fn keep(&mut self, token: Token) -> Result<(), NoMemory>
         ensures { OnOk result
             ((self.new.done ≡ self.old.done ++ token ∷ []) × (self.new.ahead ≡ self.old.ahead)) }
     {
@@ -78,22 +111,10 @@ impl Level {
         Ok(())
     }
 
-    /// Puts tokens behind those that are done, as those ahead that come first.
-    pub(crate) fn put(&mut self, news: Vec<Token>) -> Result<(), NoMemory>
-        ensures { OnOk result
-            ((self.new.done ≡ self.old.done) × (self.new.ahead ≡ news.items ++ self.old.ahead)) }
-    {
-        let mut news = news;
-        while let Some(token) = news.pop() {
-            self.push(token)?;
-        }
-        Ok(())
-    }
-
     /// The list, done or not.
     pub(crate) fn into_list(self) -> TokenList
-        ensures tokens { tokens result ≡ self.done ++ self.ahead }
-        ensures partners { self.ahead ≡ [] → HasNoPartners result }
+        ensures tokens { tokens result.nodes ≡ self.done ++ self.ahead }
+        ensures partners { self.ahead ≡ [] → HasNoPartners result.nodes }
     {
         self.list
     }
@@ -101,9 +122,9 @@ impl Level {
 
 // The node behind the last that is done.
 fn node_ahead(list: &TokenList, last: Option<Node>) -> Option<Node>
-    requires { IfSome last (λ n. IsTrue (is_live n list.now)) }
-    ensures node { result ≡ first_of (nodes_ahead last list.now) }
-    ensures live { IfSome result (λ n. IsTrue (is_live n list.now)) }
+    requires { IfSome last (λ n. IsTrue (is_live n list.now.nodes)) }
+    ensures node { result ≡ first_of (nodes_ahead last list.now.nodes) }
+    ensures live { IfSome result (λ n. IsTrue (is_live n list.now.nodes)) }
 {
     match last {
         None => list.first(),

@@ -71,6 +71,7 @@ const MOST_LAID: u32 = 262_144;
 #[derive(Drop)]
 pub struct Macros {
     macros: NameTable<Stored>,
+    key: NameKey,
     alloc: Global,
 }
 
@@ -92,6 +93,7 @@ impl Macros {
     {
         Macros {
             macros: NameTable::new(alloc, key),
+            key,
             alloc,
         }
     }
@@ -103,11 +105,7 @@ impl Macros {
         ensures err { OnErr result (self.new ≡ self.old) }
     {
         let body = Walk::over(&made.body).copies(self.alloc)?;
-        let stored = Stored {
-            parameters: made.parameters,
-            variadic: made.variadic,
-            body,
-        };
+        let stored = Stored::of(self.alloc, self.key, made.parameters, made.variadic, body)?;
         self.macros.insert(name, stored)?;
         Ok(())
     }
@@ -131,14 +129,15 @@ impl Macros {
     pub fn expand(&self, alloc: Global, list: TokenList, laid: u32) -> Result<Expanded, MacroFault>
         requires { laid ≤ most_laid }
         ensures ok { IfOk result
-            (λ x. ExpandsList self.now most_laid laid (tokens list)
-            (expanded (tokens x.list) x.laid)) }
-        ensures partners { IfOk result (λ x. HasNoPartners x.list) }
+            (λ x. ExpandsList self.now most_laid laid (tokens list.nodes)
+            (expanded (tokens x.list.nodes) x.laid)) }
+        ensures partners { IfOk result (λ x. HasNoPartners x.list.nodes) }
         ensures fault { IfErr result
             (λ fault. fault ≢ MacroFault.NoMemory
-            → ExpandsList self.now most_laid laid (tokens list) (refused fault)) }
+            → ExpandsList self.now most_laid laid (tokens list.nodes) (refused fault)) }
         ensures only { (outcome : Outcome)
-            → ExpandsList self.now most_laid laid (tokens list) outcome → Answers outcome result }
+            → ExpandsList self.now most_laid laid (tokens list.nodes) outcome
+            → Answers outcome result }
     {
         self.expand_within(alloc, list, laid, MOST_LAID)
     }
@@ -153,12 +152,14 @@ impl Macros {
     ) -> Result<Expanded, MacroFault>
         requires { laid ≤ bound }
         ensures ok { IfOk result
-            (λ x. ExpandsList self.now bound laid (tokens list) (expanded (tokens x.list) x.laid)) }
-        ensures partners { IfOk result (λ x. HasNoPartners x.list) }
+            (λ x. ExpandsList self.now bound laid (tokens list.nodes)
+            (expanded (tokens x.list.nodes) x.laid)) }
+        ensures partners { IfOk result (λ x. HasNoPartners x.list.nodes) }
         ensures fault { IfErr result
             (λ fault. fault ≢ MacroFault.NoMemory
-            → ExpandsList self.now bound laid (tokens list) (refused fault)) }
-        ensures only { (outcome : Outcome) → ExpandsList self.now bound laid (tokens list) outcome
+            → ExpandsList self.now bound laid (tokens list.nodes) (refused fault)) }
+        ensures only { (outcome : Outcome)
+            → ExpandsList self.now bound laid (tokens list.nodes) outcome
             → Answers outcome result }
     {
         self.expansion(alloc, list, laid, bound)
@@ -173,11 +174,12 @@ impl Macros {
     ) -> Result<Expanded, MacroFault>
         requires { laid ≤ bound }
         ensures ok { IfOk result
-            (λ x. ExpandsList self.now bound laid (tokens list) (expanded (tokens x.list) x.laid)) }
-        ensures partners { IfOk result (λ x. HasNoPartners x.list) }
+            (λ x. ExpandsList self.now bound laid (tokens list.nodes)
+            (expanded (tokens x.list.nodes) x.laid)) }
+        ensures partners { IfOk result (λ x. HasNoPartners x.list.nodes) }
         ensures fault { IfErr result
             (λ fault. fault ≢ MacroFault.NoMemory
-            → ExpandsList self.now bound laid (tokens list) (refused fault)) }
+            → ExpandsList self.now bound laid (tokens list.nodes) (refused fault)) }
     {
         let first = first_laid(bound, laid, &list)?;
         let (list, laid) = run(self, alloc, bound, first, list)?;
@@ -188,10 +190,10 @@ impl Macros {
 /// How many tokens are laid with those of a list.
 fn first_laid(bound: u32, laid: u32, list: &TokenList) -> Result<u32, MacroFault>
     requires { laid ≤ bound }
-    ensures within { IfOk result (λ n. (n ≡ laid + length (tokens list.now)) × (n ≤ bound)) }
+    ensures within { IfOk result (λ n. (n ≡ laid + length (tokens list.now.nodes)) × (n ≤ bound)) }
     ensures fault { IfErr result
         (λ fault. (table : Table) → fault ≢ MacroFault.NoMemory
-        → ExpandsList table bound laid (tokens list.now) (refused fault)) }
+        → ExpandsList table bound laid (tokens list.now.nodes) (refused fault)) }
 {
     let Some(token) = Walk::over(list).next() else {
         return Ok(laid);

@@ -6,7 +6,7 @@ ghost use Rattle.cx_macro.specs.Shapes.Substitutes.{items_of, substitute_of_code
 use crate::hiding::common;
 use crate::stack::Stack;
 use crate::substitutes::Substitute;
-use cx_base::{List, NoMemory, Text};
+use cx_base::{NoMemory, SharedList, Text};
 use cx_lex::one_piece;
 use cx_tokens::{Token, is_digraph};
 use std::alloc::Global;
@@ -21,14 +21,14 @@ fn join(alloc: Global, left: &Token, right: &Token) -> Result<Option<Token>, NoM
     match one_piece(alloc, spelling.as_slice())? {
         None => Ok(None),
         Some((kind, text)) => {
-            let hide = common(alloc, left.hide.as_slice(), right.hide.as_slice())?;
+            let hide = common(alloc, &left.hide, &right.hide)?;
             Ok(Some(Token {
                 kind,
                 text,
                 place: left.place,
                 hide,
                 space: left.space,
-                parts: List::new(alloc),
+                parts: SharedList::new(),
                 digraph: is_digraph(kind, spelling.as_slice()),
             }))
         }

@@ -5,20 +5,26 @@ ghost use Rattle.cx_macro.specs.Replacement as meaning;
 ghost use Rattle.cx_macro.specs.Shapes.Substitutes.{GluesTo};
 
 use crate::fault::MacroFault;
-use crate::hiding::united;
+use crate::hiding::Unions;
 use crate::pasting::glued;
 use crate::stack::Stack;
 use crate::stored::Stored;
 use crate::substitutes::{Arguments, set_space, substitutes_of};
-use cx_base::{List, NoMemory, Text};
+use cx_base::{NoMemory, SharedList, Text};
 use cx_tokens::Token;
 use std::alloc::Global;
 
-/// A token as it stands for a name.
-fn replacement_token(name: &Token, hide: &List<Text>, token: Token) -> Result<Token, NoMemory>
-    ensures { IfOk result (λ t. t ≡ meaning.replacement_token name.now hide.now token) }
+/// A token as it stands for a name, with more names to hide.
+fn replacement_token(
+    alloc: Global,
+    name: &Token,
+    unions: &mut Unions,
+    token: Token,
+) -> Result<Token, NoMemory>
+    ensures names { unions.new ≡ unions.old }
+    ensures token { IfOk result (λ t. t ≡ meaning.replacement_token name.now unions.old token) }
 {
-    let hide = united(&token.hide, hide.as_slice())?;
+    let hide = unions.of(alloc, &token.hide)?;
     Ok(Token {
         kind: token.kind,
         text: token.text,
@@ -35,16 +41,17 @@ fn replacement_token(name: &Token, hide: &List<Text>, token: Token) -> Result<To
 fn replacement_tokens(
     alloc: Global,
     name: &Token,
-    hide: &List<Text>,
+    hide: &SharedList<Text>,
     tokens: Vec<Token>,
 ) -> Result<Vec<Token>, NoMemory>
     ensures { IfOk result (λ v. v.items
         ≡ meaning.replacement_tokens name.now hide.now tokens.items) }
 {
     let mut left = Stack::from_vec(tokens);
+    let mut unions = Unions::with(hide)?;
     let mut replacement = Vec::new(alloc);
     while let Some(token) = left.pop() {
-        replacement.push(replacement_token(name, hide, token)?)?;
+        replacement.push(replacement_token(alloc, name, &mut unions, token)?)?;
     }
     set_space(&mut replacement, name.space);
     Ok(replacement)
@@ -56,7 +63,7 @@ pub(crate) fn replacement(
     stored: &Stored,
     arguments: Arguments,
     name: &Token,
-    hide: &List<Text>,
+    hide: &SharedList<Text>,
 ) -> Result<Vec<Token>, MacroFault>
     ensures replacement { IfOk result (λ v. (glued : list Token)
         × GluesTo stored.now arguments.entry (Some glued)

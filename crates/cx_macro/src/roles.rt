@@ -1,16 +1,17 @@
 //! What stands in a replacement list, by its neighbours (C11 6.10.3.1 to 6.10.3.3).
-ghost use Rattle.std.specs.Prelude.{◌≡◌, [], ◌∷◌, MatchOption, None, Some, not, reverse};
+ghost use Rattle.std.specs.Prelude.{◌≡◌, [], ◌∷◌, ◌||◌, ◌==◌, ℕ, MatchOption, IfOk, OnOk, reverse};
+ghost use Rattle.std.specs.Prelude.{false, slice_index_or};
 ghost use Rattle.cx_macro.specs.Macros as macros;
 ghost use Rattle.cx_macro.specs.Replacement as meaning;
-ghost use Rattle.cx_macro.specs.Shapes.Roles as shapes;
-ghost use Rattle.cx_macro.specs.Shapes.Roles.{position_of, role_of_code};
-ghost use Rattle.cx_macro.specs.Shapes.Substitutes.{is_raw};
-ghost use Rattle.cx_macro.specs.Stored.{definition_of};
+ghost use Rattle.cx_macro.specs.Shapes.Roles.{code_of, position_of, role_at, takes_given};
+ghost use Rattle.cx_macro.specs.Shapes.Uses.{AreUses};
 
+use crate::lookup::Lookup;
 use crate::marks::{is_comma, is_hash, is_paste};
 use crate::spelling::first;
-use crate::stored::Stored;
+use cx_base::NoMemory;
 use cx_tokens::Token;
+use std::alloc::Global;
 use std::marker::Model;
 
 /// A token of a replacement list, with those before it and those after it.
@@ -23,15 +24,15 @@ pub(crate) struct Position<'a> {
 
 /// What a token of a replacement list is.
 #[derive(Clone, Copy)]
-pub(crate) enum Role<'a> {
+pub(crate) enum Role {
     /// It stands for itself.
     Itself,
     /// A `##` operator.
     Paste,
     /// A `#` operator, before its operand.
     Hash,
-    /// The operand of this `#`: the parameter with this index.
-    HashOperand(&'a Token, usize),
+    /// The operand of the `#` directly before it: the parameter with this index.
+    HashOperand(usize),
     /// The parameter with this index, an operand of a `##`.
     Given(usize),
     /// The parameter with this index, elsewhere.
@@ -85,7 +86,7 @@ impl<'a> Positions<'a> {
 }
 
 /// The last of tokens, and those before it.
-fn nearest(before: &[Token]) -> Option<(&Token, &[Token])>
+pub(crate) fn nearest(before: &[Token]) -> Option<(&Token, &[Token])>
     ensures { MatchOption result (reverse before.now ≡ []) (λ x. reverse before.now
         ≡ x.0.now ∷ reverse x.1.now) }
 {
@@ -116,30 +117,20 @@ fn begins_with_paste(after: &[Token]) -> bool
 }
 
 /// Whether a parameter is the first of tokens.
-fn begins_with_parameter(stored: &Stored, after: &[Token]) -> bool
+fn begins_with_parameter(lookup: &Lookup, after: &[Token]) -> bool
     ensures { result
-        ≡ meaning.begins_with (meaning.is_parameter (definition_of stored.now)) after.now }
+        ≡ meaning.begins_with (meaning.is_parameter lookup.now) after.now }
 {
     match first(after) {
-        Some((token, _)) => stored.parameter_at(token).is_some(),
+        Some((token, _)) => lookup.parameter_at(token).is_some(),
         None => false,
-    }
-}
-
-/// The index of the variable argument.
-fn variable_index(stored: &Stored) -> usize
-    ensures { result ≡ meaning.variable_index (definition_of stored.now) }
-{
-    match &stored.parameters {
-        Some(names) => names.as_slice().len(),
-        None => 0,
     }
 }
 
 /// Whether a `,` that no `##` precedes, a `##` and the variable argument, which no `##` follows,
 /// are GNU's comma.
 fn is_gnu_comma(
-    stored: &Stored,
+    lookup: &Lookup,
     before: &[Token],
     comma: &Token,
     operator: &Token,
@@ -147,20 +138,20 @@ fn is_gnu_comma(
     after: &[Token],
 ) -> bool
     ensures { result
-        ≡ meaning.is_gnu_comma (definition_of stored.now) (reverse before.now)
+        ≡ meaning.is_gnu_comma lookup.now (reverse before.now)
         (comma.now ∷ operator.now ∷ variable.now ∷ after.now) }
 {
     is_comma(comma)
         && is_paste(operator)
-        && stored.is_parameter(variable, variable_index(stored))
+        && lookup.is_parameter(variable, lookup.variable_index())
         && !ends_with_paste(before)
         && !begins_with_paste(after)
 }
 
 /// Whether GNU's comma begins at a position.
-fn begins_gnu_comma(stored: &Stored, position: Position) -> bool
+fn begins_gnu_comma(lookup: &Lookup, position: Position) -> bool
     ensures { let p = position_of position.entry in result
-        ≡ meaning.is_gnu_comma (definition_of stored.now) p.before (p.token ∷ p.after) }
+        ≡ meaning.is_gnu_comma lookup.now p.before (p.token ∷ p.after) }
 {
     let Some((operator, after)) = first(position.after) else {
         return false;
@@ -169,7 +160,7 @@ fn begins_gnu_comma(stored: &Stored, position: Position) -> bool
         return false;
     };
     is_gnu_comma(
-        stored,
+        lookup,
         position.before,
         position.token,
         operator,
@@ -179,9 +170,9 @@ fn begins_gnu_comma(stored: &Stored, position: Position) -> bool
 }
 
 /// Whether it begins one token before a position.
-fn follows_gnu_comma(stored: &Stored, position: Position) -> bool
+fn follows_gnu_comma(lookup: &Lookup, position: Position) -> bool
     ensures { let p = position_of position.entry in result
-        ≡ meaning.follows_gnu_comma (definition_of stored.now) p.before (p.token ∷ p.after) }
+        ≡ meaning.follows_gnu_comma lookup.now p.before (p.token ∷ p.after) }
 {
     let Some((comma, before)) = nearest(position.before) else {
         return false;
@@ -189,13 +180,13 @@ fn follows_gnu_comma(stored: &Stored, position: Position) -> bool
     let Some((variable, after)) = first(position.after) else {
         return false;
     };
-    is_gnu_comma(stored, before, comma, position.token, variable, after)
+    is_gnu_comma(lookup, before, comma, position.token, variable, after)
 }
 
 /// Whether it begins two tokens before a position.
-fn ends_gnu_comma(stored: &Stored, position: Position) -> bool
+fn ends_gnu_comma(lookup: &Lookup, position: Position) -> bool
     ensures { let p = position_of position.entry in result
-        ≡ meaning.ends_gnu_comma (definition_of stored.now) p.before (p.token ∷ p.after) }
+        ≡ meaning.ends_gnu_comma lookup.now p.before (p.token ∷ p.after) }
 {
     let Some((operator, before)) = nearest(position.before) else {
         return false;
@@ -204,7 +195,7 @@ fn ends_gnu_comma(stored: &Stored, position: Position) -> bool
         return false;
     };
     is_gnu_comma(
-        stored,
+        lookup,
         before,
         comma,
         operator,
@@ -214,8 +205,8 @@ fn ends_gnu_comma(stored: &Stored, position: Position) -> bool
 }
 
 /// What the parameter with an index is, where it is no operand of a `#`.
-fn substituted<'a>(position: Position<'a>, index: usize) -> Role<'a>
-    ensures { role_of_code result ≡ meaning.substituted (position_of position.entry) index }
+fn substituted(position: Position, index: usize) -> Role
+    ensures { result ≡ code_of (meaning.substituted (position_of position.entry) index) }
 {
     if ends_with_paste(position.before) || begins_with_paste(position.after) {
         return Role::Given(index);
@@ -224,15 +215,15 @@ fn substituted<'a>(position: Position<'a>, index: usize) -> Role<'a>
 }
 
 /// What the parameter with an index is.
-fn role_of_parameter<'a>(position: Position<'a>, index: usize) -> Role<'a>
-    ensures { let p = position_of position.entry in role_of_code result
-        ≡ meaning.role_of_parameter p p.before index }
+fn role_of_parameter(position: Position, index: usize) -> Role
+    ensures { let p = position_of position.entry in result
+        ≡ code_of (meaning.role_of_parameter p p.before index) }
 {
     match nearest(position.before) {
         None => substituted(position, index),
         Some((token, _)) => {
             if is_hash(token) {
-                Role::HashOperand(token, index)
+                Role::HashOperand(index)
             } else {
                 substituted(position, index)
             }
@@ -241,17 +232,16 @@ fn role_of_parameter<'a>(position: Position<'a>, index: usize) -> Role<'a>
 }
 
 /// What the standard makes of a token.
-fn standard_role<'a>(stored: &Stored, position: Position<'a>) -> Role<'a>
-    ensures { role_of_code result
-        ≡ meaning.standard_role (definition_of stored.now) (position_of position.entry) }
+fn standard_role(lookup: &Lookup, position: Position) -> Role
+    ensures { result ≡ code_of (meaning.standard_role lookup.now (position_of position.entry)) }
 {
     if is_paste(position.token) {
         return Role::Paste;
     }
-    if is_hash(position.token) && begins_with_parameter(stored, position.after) {
+    if is_hash(position.token) && begins_with_parameter(lookup, position.after) {
         return Role::Hash;
     }
-    match stored.parameter_at(position.token) {
+    match lookup.parameter_at(position.token) {
         None => Role::Itself,
         Some(index) => role_of_parameter(position, index),
     }
@@ -259,103 +249,93 @@ fn standard_role<'a>(stored: &Stored, position: Position<'a>) -> Role<'a>
 
 /// What a token of the replacement list is.
 #[tactic(auto, unfolding(crate::specs::Replacement::role_of))]
-pub(crate) fn role_of<'a>(stored: &Stored, position: Position<'a>) -> Role<'a>
-    ensures { role_of_code result
-        ≡ meaning.role_of (definition_of stored.now) (position_of position.entry) }
+fn role_of(lookup: &Lookup, position: Position) -> Role
+    ensures { result ≡ code_of (meaning.role_of lookup.now (position_of position.entry)) }
 {
-    if begins_gnu_comma(stored, position) {
+    if begins_gnu_comma(lookup, position) {
         return Role::GnuComma;
     }
-    if follows_gnu_comma(stored, position) {
+    if follows_gnu_comma(lookup, position) {
         return Role::GnuPaste;
     }
-    if ends_gnu_comma(stored, position) {
-        return Role::GnuVariable(variable_index(stored));
+    if ends_gnu_comma(lookup, position) {
+        return Role::GnuVariable(lookup.variable_index());
     }
-    standard_role(stored, position)
+    standard_role(lookup, position)
 }
 
-/// Whether some argument stands expanded at a position.
-fn is_role_expanded(stored: &Stored, position: Position) -> bool
-    ensures { result
-        ≡ shapes.is_role_expanded (meaning.role_of (definition_of stored.now)
-        (position_of position.entry)) }
+/// What each token of a body is, and of which arguments one stands expanded somewhere, and of which
+/// as it is given.
+#[derive(Drop)]
+pub(crate) struct Uses {
+    pub(crate) roles: Vec<Role>,
+    pub(crate) expanded: Vec<bool>,
+    pub(crate) raw: Vec<bool>,
+}
+
+/// Sets the flag at an index. Those that are not there are not set.
+fn set_flag(flags: &mut Vec<bool>, index: usize) -> Result<(), NoMemory>
+    ensures { OnOk result ((i : ℕ) → slice_index_or flags.new.items i false
+        ≡ ((i == index) || slice_index_or flags.old.items i false)) }
 {
-    match role_of(stored, position) {
-        Role::Expanded(_) | Role::GnuVariable(_) => true,
+    while flags.len() <= index {
+        flags.push(false)?;
+    }
+    flags[index] = true;
+    Ok(())
+}
+
+/// Notes which argument stands expanded at a position with a role.
+fn note_expanded(flags: &mut Vec<bool>, role: Role) -> Result<(), NoMemory>
+    ensures { OnOk result ((p : meaning.Position) (i : ℕ) → slice_index_or flags.new.items i false
+        ≡ (meaning.takes_expanded i (role_at p role) || slice_index_or flags.old.items i false)) }
+{
+    match role {
+        Role::Expanded(index) | Role::GnuVariable(index) => set_flag(flags, index),
         Role::Itself
         | Role::Paste
         | Role::Hash
-        | Role::HashOperand(_, _)
+        | Role::HashOperand(_)
         | Role::Given(_)
         | Role::GnuComma
-        | Role::GnuPaste => false,
+        | Role::GnuPaste => Ok(()),
     }
 }
 
-/// Whether some argument stands as it is given at a position.
-fn is_role_given(stored: &Stored, position: Position) -> bool
-    ensures { result
-        ≡ shapes.is_role_given (meaning.role_of (definition_of stored.now)
-        (position_of position.entry)) }
+/// Notes which argument stands as it is given at a position with a role.
+fn note_raw(flags: &mut Vec<bool>, role: Role) -> Result<(), NoMemory>
+    ensures { OnOk result ((p : meaning.Position) (i : ℕ) → slice_index_or flags.new.items i false
+        ≡ (takes_given i (role_at p role) || slice_index_or flags.old.items i false)) }
 {
-    match role_of(stored, position) {
-        Role::HashOperand(_, _) | Role::Given(_) => true,
+    match role {
+        Role::HashOperand(index) | Role::Given(index) => set_flag(flags, index),
         Role::Itself
         | Role::Paste
         | Role::Hash
         | Role::Expanded(_)
         | Role::GnuComma
         | Role::GnuPaste
-        | Role::GnuVariable(_) => false,
+        | Role::GnuVariable(_) => Ok(()),
     }
 }
 
-/// Whether the argument with an index stands expanded at a position. The name is looked at first,
-/// since it tells most often.
-#[tactic(auto, using(crate::proofs::RoleLaws::takes_expanded_is))]
-fn takes_expanded(stored: &Stored, position: Position, index: usize) -> bool
-    ensures { result
-        ≡ meaning.takes_expanded index (meaning.role_of (definition_of stored.now)
-        (position_of position.entry)) }
+/// What each token of a macro's body is, and how its arguments stand there.
+pub(crate) fn uses_of(alloc: Global, lookup: &Lookup) -> Result<Uses, NoMemory>
+    ensures { IfOk result (λ uses. AreUses lookup.now uses) }
 {
-    stored.is_parameter(position.token, index) && is_role_expanded(stored, position)
-}
-
-/// Whether the argument with an index stands as it is given at a position.
-#[tactic(auto, using(crate::proofs::RoleLaws::takes_given_is))]
-fn takes_given(stored: &Stored, position: Position, index: usize) -> bool
-    ensures { result
-        ≡ shapes.takes_given index (meaning.role_of (definition_of stored.now)
-        (position_of position.entry)) }
-{
-    stored.is_parameter(position.token, index) && is_role_given(stored, position)
-}
-
-/// Whether the argument with an index stands expanded somewhere.
-#[tactic(auto, unfolding(crate::specs::Replacement::is_expanded))]
-pub(crate) fn is_expanded(stored: &Stored, index: usize) -> bool
-    ensures { result ≡ meaning.is_expanded (definition_of stored.now) index }
-{
-    let mut positions = Positions::of(stored.body.as_slice());
+    let mut roles = Vec::new(alloc);
+    let mut expanded = Vec::new(alloc);
+    let mut raw = Vec::new(alloc);
+    let mut positions = Positions::of(lookup.body());
     while let Some(position) = positions.next() {
-        if takes_expanded(stored, position, index) {
-            return true;
-        }
+        let role = role_of(lookup, position);
+        note_expanded(&mut expanded, role)?;
+        note_raw(&mut raw, role)?;
+        roles.push(role)?;
     }
-    false
-}
-
-/// Whether the argument with an index stands somewhere as it is given.
-#[tactic(auto, unfolding(crate::specs::Shapes::Substitutes::is_raw))]
-pub(crate) fn is_raw(stored: &Stored, index: usize) -> bool
-    ensures { result ≡ is_raw (definition_of stored.now) index }
-{
-    let mut positions = Positions::of(stored.body.as_slice());
-    while let Some(position) = positions.next() {
-        if takes_given(stored, position, index) {
-            return true;
-        }
-    }
-    false
+    Ok(Uses {
+        roles,
+        expanded,
+        raw,
+    })
 }

@@ -1,5 +1,5 @@
 //! Segments of what is ahead in a list.
-use cx_base::{List, Text};
+use cx_base::{SharedList, Text};
 
 /// A segment of what is ahead in a list.
 #[derive(Clone, Copy)]
@@ -20,7 +20,7 @@ pub(crate) enum Cut {
     /// What the closing bracket hides, how many arguments there are, and whether the variable one
     /// is left out.
     Called {
-        hide: List<Text>,
+        hide: SharedList<Text>,
         arguments: usize,
         left_out: bool,
     },

@@ -3,7 +3,7 @@ ghost use Rattle.std.specs.Prelude.{◌≡◌, [], ◌∷◌, ◌++◌, IfOk, On
 ghost use Rattle.cx_macro.specs.Replacement as meaning;
 
 use crate::marks::is_quoted;
-use cx_base::{List, NoMemory, Text};
+use cx_base::{NoMemory, SharedList, Text};
 use cx_tokens::{Kind, Token};
 use std::alloc::Global;
 
@@ -93,14 +93,14 @@ pub(crate) fn string_of(alloc: Global, hash: &Token, argument: &[Token]) -> Resu
     let mut text = Text::from_slice(alloc, b"\"")?;
     push_tokens(&mut text, argument)?;
     text.push_all(b"\"")?;
-    let hide = hash.hide.copy()?;
+    let hide = hash.hide.share()?;
     Ok(Token {
         kind: Kind::String,
         text,
         place: hash.place,
         hide,
         space: hash.space,
-        parts: List::new(alloc),
+        parts: SharedList::new(),
         digraph: false,
     })
 }

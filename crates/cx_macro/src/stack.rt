@@ -1,5 +1,5 @@
 //! Stacks.
-ghost use Rattle.std.specs.Prelude.{◌≡◌, List as list, [], ◌∷◌, ◌++◌, length, ◌==◌, OnOk, OnErr, MatchOption};
+ghost use Rattle.std.specs.Prelude.{◌≡◌, List as list, [], ◌∷◌, ◌++◌, length, ◌==◌, OnOk, OnErr, MatchOption, reverse};
 
 use cx_base::NoMemory;
 use std::alloc::Global;
@@ -49,6 +49,13 @@ impl<T> Stack<T> {
         let mut items = self.items;
         items.as_mut_slice().reverse();
         items
+    }
+
+    /// The members, the one on top last.
+    pub(crate) fn as_slice(&self) -> &[T]
+        ensures { reverse result.now ≡ self.now }
+    {
+        self.items.as_slice()
     }
 
     /// Whether it has no member.

@@ -1,24 +1,52 @@
 //! Macros as they are looked up.
-ghost use Rattle.std.specs.Prelude.{◌≡◌, IfOk, bytes_eq, false, position};
+ghost use Rattle.std.specs.Prelude.{◌≡◌, IfOk, MatchOption, None, Some, bytes_eq, false, option_map};
+ghost use Rattle.std.specs.Prelude.{slice_index_or};
+ghost use Rattle.cx_table.specs.NameTable.{names_of};
 ghost use Rattle.cx_macro.specs.Expansion.{line_of};
-ghost use Rattle.cx_macro.specs.Macros as macros;
-ghost use Rattle.cx_macro.specs.Replacement.{is_index};
-ghost use Rattle.cx_macro.specs.Stored.{definition_of};
+ghost use Rattle.cx_macro.specs.Macros.{are_distinct};
+ghost use Rattle.cx_macro.specs.Replacement as meaning;
+ghost use Rattle.cx_macro.specs.Shapes.Substitutes as shapes;
+ghost use Rattle.cx_macro.specs.Shapes.Uses.{AreUses, roles_of};
 
-use crate::marks::is_name;
-use cx_base::{List, NoMemory, Text};
+use crate::lookup::{Lookup, names_in};
+use crate::roles::{Role, Uses, uses_of};
+use cx_base::{List, NoMemory, SharedList, Text};
+use cx_table::{NameKey, NameTable};
 use cx_tokens::{Kind, Token};
 use std::alloc::Global;
+use std::marker::Model;
 
 /// The name of the variable argument (C11 6.10.3, paragraph 5).
 pub(crate) const VARIABLE_NAME: &[u8] = b"__VA_ARGS__";
 
-/// A macro, with the tokens of its body.
+/// A macro, which contracts see as its definition. What its body alone tells is found once, when
+/// the macro is made.
 #[derive(Drop)]
 pub(crate) struct Stored {
-    pub(crate) parameters: Option<List<Text>>,
-    pub(crate) variadic: bool,
-    pub(crate) body: List<Token>,
+    parameters: Option<List<Text>>,
+    variadic: bool,
+    body: List<Token>,
+    uses: Uses,
+}
+
+impl Model for Stored {
+    ghost use Rattle.cx_macro.specs.Macros.{Definition};
+
+    ghost Value = { Definition };
+
+    ghost use Rattle.cx_macro.specs.Shapes.Uses.{AreUses};
+
+    ghost view = { λ s. record {
+      parameters = s.parameters;
+      variadic = s.variadic;
+      body = s.body;
+    } };
+
+    ghost invariant = { λ s. AreUses (record {
+      parameters = s.parameters;
+      variadic = s.variadic;
+      body = s.body;
+    }) s.uses };
 }
 
 /// Whether two names are one.
@@ -28,41 +56,81 @@ pub(crate) fn is_same(name: &[u8], other: &[u8]) -> bool
     name == other
 }
 
-/// The index of the argument that a name stands for, among these parameters.
-fn index_among(variadic: bool, parameters: &[Text], name: &[u8]) -> Option<usize>
-    ensures { result ≡ macros.index_of variadic (Some parameters.now) name.now }
+/// What each token of a body is, and how its arguments stand there, where the macro has parameters
+/// of these names.
+fn uses_in(
+    alloc: Global,
+    names: Option<NameTable<()>>,
+    variadic: bool,
+    body: &[Token],
+) -> Result<Uses, NoMemory>
+    ensures { IfOk result (λ uses. AreUses (record {
+      parameters = option_map names_of names;
+      variadic = variadic;
+      body = body.now;
+    }) uses) }
 {
-    match position_of(parameters, name) {
-        Some(index) => Some(index),
-        None => variable_index(variadic, parameters, name),
-    }
+    let lookup = Lookup::new(names, variadic, body);
+    uses_of(alloc, &lookup)
 }
 
-/// The index of a name among names.
-fn position_of(names: &[Text], name: &[u8]) -> Option<usize>
-    ensures { result ≡ position (bytes_eq name.now) names.now }
+/// Whether the flag at an index is set.
+fn flag(flags: &[bool], index: usize) -> bool
+    ensures { result ≡ slice_index_or flags.now index false }
 {
-    names.iter().position(|other| name == other.as_slice())
-}
-
-/// The index of the variable argument, where a name that is no parameter's is its name.
-fn variable_index(variadic: bool, parameters: &[Text], name: &[u8]) -> Option<usize>
-    ensures { result ≡ macros.index_among variadic parameters.now name.now None }
-{
-    if !variadic {
-        return None;
-    }
-    if is_same(name, VARIABLE_NAME) {
-        Some(parameters.len())
-    } else {
-        None
+    match flags.get(index) {
+        Some(flag) => *flag,
+        None => false,
     }
 }
 
 impl Stored {
+    /// A macro, whose parameters are distinct and are looked up under this key.
+    pub(crate) fn of(
+        alloc: Global,
+        key: NameKey,
+        parameters: Option<List<Text>>,
+        variadic: bool,
+        body: List<Token>,
+    ) -> Result<Stored, NoMemory>
+        requires { are_distinct parameters }
+        ensures { IfOk result (λ s. s ≡ record {
+          parameters = parameters;
+          variadic = variadic;
+          body = body;
+        }) }
+    {
+        let names = names_in(alloc, key, &parameters)?;
+        Stored::with_names(alloc, parameters, names, variadic, body)
+    }
+
+    /// A macro with parameters of these names.
+    fn with_names(
+        alloc: Global,
+        parameters: Option<List<Text>>,
+        names: Option<NameTable<()>>,
+        variadic: bool,
+        body: List<Token>,
+    ) -> Result<Stored, NoMemory>
+        requires { option_map names_of names ≡ parameters }
+        ensures { IfOk result (λ s. s ≡ record {
+          parameters = parameters;
+          variadic = variadic;
+          body = body;
+        }) }
+    {
+        let uses = uses_in(alloc, names, variadic, body.as_slice())?;
+        Ok(Stored {
+            parameters,
+            variadic,
+            body,
+            uses,
+        })
+    }
+
     /// The macro that `__LINE__` is at a place (C11 6.10.8.1).
     pub(crate) fn line_of(alloc: Global, token: &Token) -> Result<Stored, NoMemory>
-        ensures { IfOk result (λ s. definition_of s ≡ line_of token.now) }
+        ensures { IfOk result (λ s. s ≡ line_of token.now) }
     {
         let mut text = Text::new(alloc);
         text.push_number(token.place.line)?;
@@ -71,55 +139,56 @@ impl Stored {
             kind: Kind::Number,
             text,
             place: token.place,
-            hide: List::new(alloc),
+            hide: SharedList::new(),
             space: false,
-            parts: List::new(alloc),
+            parts: SharedList::new(),
             digraph: false,
         })?;
-        Ok(Stored {
-            parameters: None,
-            variadic: false,
-            body,
-        })
+        Stored::with_names(alloc, None, None, false, body)
     }
 
-    /// The index of the argument that a token of the body stands for.
-    #[tactic(auto, unfolding(crate::specs::Macros::parameter_at))]
-    pub(crate) fn parameter_at(&self, token: &Token) -> Option<usize>
-        ensures { result ≡ macros.parameter_at (definition_of self.now) token.now }
+    /// The names of its parameters, where it is function-like.
+    pub(crate) fn parameters(&self) -> Option<&[Text]>
+        ensures { MatchOption result (self.now.parameters ≡ None)
+            (λ names. self.now.parameters ≡ Some names.now) }
     {
-        if !is_name(token.kind) {
-            return None;
-        }
         match &self.parameters {
             None => None,
-            Some(parameters) => index_among(
-                self.variadic,
-                parameters.as_slice(),
-                token.text.as_slice(),
-            ),
+            Some(parameters) => Some(parameters.as_slice()),
         }
     }
 
-    /// Whether a token may be the parameter with an index, by its name: this is told without a
-    /// search among the others.
-    fn may_be(&self, token: &Token, index: usize) -> bool
-        ensures { result ≡ false
-            → is_index index (macros.parameter_at (definition_of self.now) token.now) ≡ false }
+    /// Whether a variable argument stands behind these.
+    pub(crate) fn is_variadic(&self) -> bool
+        ensures { result ≡ self.now.variadic }
     {
-        let Some(parameters) = &self.parameters else {
-            return false;
-        };
-        match parameters.as_slice().get(index) {
-            Some(name) => is_same(token.text.as_slice(), name.as_slice()),
-            None => true,
-        }
+        self.variadic
     }
 
-    /// Whether a token of the body is the parameter with an index.
-    pub(crate) fn is_parameter(&self, token: &Token, index: usize) -> bool
-        ensures { result ≡ is_index index (macros.parameter_at (definition_of self.now) token.now) }
+    pub(crate) fn body(&self) -> &[Token]
+        ensures { result.now ≡ self.now.body }
     {
-        self.may_be(token, index) && self.parameter_at(token) == Some(index)
+        self.body.as_slice()
+    }
+
+    /// What each token of the body is.
+    pub(crate) fn roles(&self) -> &[Role]
+        ensures { result.now ≡ roles_of self.now }
+    {
+        self.uses.roles.as_slice()
+    }
+
+    /// Whether the argument with an index stands expanded somewhere.
+    pub(crate) fn is_expanded(&self, index: usize) -> bool
+        ensures { result ≡ meaning.is_expanded self.now index }
+    {
+        flag(self.uses.expanded.as_slice(), index)
+    }
+
+    /// Whether the argument with an index stands somewhere as it is given.
+    pub(crate) fn is_raw(&self, index: usize) -> bool
+        ensures { result ≡ shapes.is_raw self.now index }
+    {
+        flag(self.uses.raw.as_slice(), index)
     }
 }

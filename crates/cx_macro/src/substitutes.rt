@@ -1,11 +1,10 @@
 //! A replacement list with its arguments put in (C11 6.10.3.1).
-ghost use Rattle.std.specs.Prelude.{◌≡◌, [], ◌∷◌, ◌++◌, IfOk, OnOk, slice_index_or};
+ghost use Rattle.std.specs.Prelude.{◌≡◌, [], ◌∷◌, ◌++◌, IfOk, OnOk, MatchOption, slice_index_or};
 ghost use Rattle.cx_macro.specs.Replacement as meaning;
-ghost use Rattle.cx_macro.specs.Shapes.Roles.{position_of, role_of_code};
+ghost use Rattle.cx_macro.specs.Shapes.Roles.{nearest_or, position_of, role_at};
 ghost use Rattle.cx_macro.specs.Shapes.Substitutes.{arguments_of_code, substitutes_of_code};
-ghost use Rattle.cx_macro.specs.Stored.{definition_of};
 
-use crate::roles::{Positions, Role, role_of};
+use crate::roles::{Position, Positions, Role, nearest};
 use crate::spelling::string_of;
 use crate::stored::Stored;
 use cx_base::{List, NoMemory};
@@ -90,17 +89,29 @@ fn push_operand(out: &mut Vec<Substitute>, tokens: Vec<Token>) -> Result<(), NoM
     Ok(())
 }
 
-/// Adds what stands for a token with a role.
+/// The token directly before a position's.
+fn token_before<'a>(position: Position<'a>) -> &'a Token
+    ensures { let p = position_of position.entry in result.now ≡ nearest_or p.token p.before }
+{
+    match nearest(position.before) {
+        Some((token, _)) => token,
+        None => position.token,
+    }
+}
+
+/// Adds what stands for the token at a position with a role.
 fn push_substitute(
     out: &mut Vec<Substitute>,
     arguments: Arguments,
-    token: &Token,
+    position: Position,
     role: Role,
 ) -> Result<(), NoMemory>
     ensures { OnOk result (substitutes_of_code out.new.items ≡ substitutes_of_code out.old.items
         ++ meaning.substitutes_by (arguments_of_code arguments.entry)
-        arguments.entry.expanded.now token.now (role_of_code role.entry)) }
+        arguments.entry.expanded.now position.entry.token.now
+        (role_at (position_of position.entry) role)) }
 {
+    let token = position.token;
     let alloc = *out.allocator();
     match role {
         Role::Itself => push_operand(out, one(alloc, token.copy()?)?),
@@ -109,7 +120,8 @@ fn push_substitute(
             Ok(())
         }
         Role::Hash | Role::GnuPaste => Ok(()),
-        Role::HashOperand(hash, index) => {
+        Role::HashOperand(index) => {
+            let hash = token_before(position);
             let string = string_of(alloc, hash, argument(arguments.given, index))?;
             push_operand(out, one(alloc, string)?)
         }
@@ -137,6 +149,16 @@ fn push_substitute(
     }
 }
 
+/// The first of roles, and those after it.
+fn next_role(roles: &[Role]) -> Option<(Role, &[Role])>
+    ensures { MatchOption result (roles.now ≡ []) (λ x. roles.now ≡ x.0 ∷ x.1.now) }
+{
+    match roles {
+        [] => None,
+        [role, rest @ ..] => Some((*role, rest)),
+    }
+}
+
 /// A macro's replacement list with its arguments put in.
 #[tactic(auto, unfolding(crate::specs::Replacement::substitutes_of))]
 pub(crate) fn substitutes_of(
@@ -145,18 +167,18 @@ pub(crate) fn substitutes_of(
     arguments: Arguments,
 ) -> Result<Vec<Substitute>, NoMemory>
     ensures { IfOk result (λ v. substitutes_of_code v.items
-        ≡ meaning.substitutes_of (definition_of stored.now) (arguments_of_code arguments.entry)
+        ≡ meaning.substitutes_of stored.now (arguments_of_code arguments.entry)
         arguments.entry.expanded.now) }
 {
     let mut out = Vec::new(alloc);
-    let mut positions = Positions::of(stored.body.as_slice());
+    let mut positions = Positions::of(stored.body());
+    let mut roles = stored.roles();
     while let Some(position) = positions.next() {
-        push_substitute(
-            &mut out,
-            arguments,
-            position.token,
-            role_of(stored, position),
-        )?;
+        let Some((role, rest)) = next_role(roles) else {
+            return Ok(out);
+        };
+        push_substitute(&mut out, arguments, position, role)?;
+        roles = rest;
     }
     Ok(out)
 }

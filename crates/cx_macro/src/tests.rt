@@ -236,7 +236,10 @@ fn pieces(alloc: Global, text: &str) -> Result<List<Piece>, NoMemory> {
 /// A list of tokens.
 fn list_from(alloc: Global, tokens: Vec<Token>) -> Result<TokenList, NoMemory> {
     let mut level = Level::new(TokenList::new(alloc));
-    level.put(tokens)?;
+    let mut left = tokens;
+    while let Some(token) = left.pop() {
+        level.push(token)?;
+    }
     Ok(level.into_list())
 }
 

@@ -32,15 +32,15 @@ impl<'a> Model for Walk<'a> {
 
     ghost Value = { List Token };
 
-    ghost view = { λ w. walked w.left w.at w.list.now };
+    ghost view = { λ w. walked w.left w.at w.list.now.nodes };
 
-    ghost invariant = { λ w. IfSome w.at (λ n. IsTrue (is_live n w.list.now)) };
+    ghost invariant = { λ w. IfSome w.at (λ n. IsTrue (is_live n w.list.now.nodes)) };
 }
 
 impl<'a> Walk<'a> {
     /// All tokens of a list.
     pub(crate) fn over(list: &'a TokenList) -> Walk<'a>
-        ensures { result ≡ tokens list.now }
+        ensures { result ≡ tokens list.now.nodes }
     {
         list.are_numbered();
         Walk::from(list, list.first())
@@ -48,8 +48,8 @@ impl<'a> Walk<'a> {
 
     /// The tokens from a node on.
     pub(crate) fn from(list: &'a TokenList, at: Option<Node>) -> Walk<'a>
-        requires { IfSome at (λ n. IsTrue (is_live n list.now)) }
-        ensures { result ≡ walked None at list.now }
+        requires { IfSome at (λ n. IsTrue (is_live n list.now.nodes)) }
+        ensures { result ≡ walked None at list.now.nodes }
     {
         Walk {
             list,

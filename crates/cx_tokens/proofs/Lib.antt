@@ -2,7 +2,11 @@ pub mod BalanceLaws
 pub mod BracketLaws
 pub mod DigraphLaws
 mod Examples
-pub mod KeptLaws
+pub mod GoneLaws
+pub mod LinkEdits
+pub mod LinkLaws
+pub mod LinkRuns
+pub mod LinkSteps
 pub mod MateLaws
 pub mod NodeLaws
 pub mod OpenLaws
@@ -11,7 +15,8 @@ pub mod PartLaws
 pub mod PlaceLaws
 pub mod SimplifyLaws
 pub mod StayLaws
-pub mod StepLaws
 pub mod SweepLaws
+pub mod SweepSteps
 pub mod SweptPairs
+pub mod TextLaws
 pub mod UnadornedLaws

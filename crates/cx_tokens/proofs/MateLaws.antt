@@ -1,13 +1,14 @@
 -- Paired brackets are partners of each other.
-use Rattle.std.proofs.Common.{◌≡◌, ℕ, arith, List, [], ◌∷◌, ◌++◌, Some, sym, ap, ◌∙◌, subst, append_assoc, append-nil, map, length, ◌==◌}
-use Rattle.std.specs.List.{AllByRecursion, IsDistinct, list_any}
+use Rattle.std.proofs.Common.{◌≡◌, ℕ, arith, List, [], ◌∷◌, ◌++◌, Option, Some, refl, sym, ap, ◌∙◌, subst, append_assoc, append-nil, map, length, ◌==◌}
+use Rattle.std.specs.List.{AllByRecursion, IsDistinct}
 use Rattle.std.proofs.lemmas.List.{length-map}
-use Rattle.cx_tokens.specs.Nodes.{IsTokenList, TokenNode, nodes_before, nodes_after, is_live, partner_in, partner_of}
+use Rattle.cx_tokens.specs.Nodes.{IsTokenList, TokenNode, first_of, nodes_before, nodes_after, partner_in, partner_of}
 use Rattle.cx_tokens.specs.Brackets.{IsPaired, nothing, other, pair}
-use Rattle.cx_tokens.specs.Shapes.Edits.{IsValidList}
-use Rattle.cx_tokens.specs.Shapes.Pairing.{number_and_token}
+use Rattle.cx_tokens.specs.declared.slots.Slot.{Slot}
+use Rattle.cx_tokens.specs.Shapes.Links.{IsLinks, IsPut}
+use Rattle.cx_tokens.specs.Shapes.Pairing.{IsChain, IsMated, number_and_token}
 use Rattle.cx_tokens.proofs.NodeLaws.{IsNumbered, found, partner_live}
-use Rattle.cx_tokens.proofs.PartLaws.{gone_live, node_at}
+use Rattle.cx_tokens.proofs.PartLaws.{node_at}
 use Rattle.cx_tokens.proofs.BalanceLaws.{named_parts}
 
 -- the partner of a node is in the list, with the node as its partner
@@ -68,15 +69,41 @@ mated_mutual all d h n m e =
 pub paired_list : (all : List TokenNode) → IsPaired all → IsNumbered all → IsTokenList all
 paired_list all h d = record { distinct = d; mutual_partners = mated_mutual all d (paired_mated h all [] [] (sym (append-nil all))) }
 
-pub live_named : (xs ys : List TokenNode) (n : ℕ) → map (λ x. x.number) xs ≡ map (λ x. x.number) ys → is_live n xs ≡ is_live n ys
-live_named xs ys n e = sym (gone_live xs n) ∙ ap (list_any (λ g. g == n)) e ∙ gone_live ys n
+abbrev pub chain_of : (slots : List Slot) (first : Option ℕ) (len : ℕ) (free : Option ℕ) (spare : ℕ) → IsLinks slots first len free spare → IsChain slots first
+chain_of slots first len free spare h = record {
+  nodes = h.nodes;
+  linked = h.linked;
+  first_is = h.first_is;
+  numbered = h.is_list.distinct;
+  few = let a = h.all in let b = h.len_is in omega (arith, a, b);
+}
 
-pub kept_paired : (old new : List TokenNode) (next room more : ℕ) (opened left : List ℕ) → IsValidList old next room opened → IsPaired new → map number_and_token new ≡ map number_and_token old → more ≡ room → left ≡ [] → IsValidList new next more left
-kept_paired old new next room more opened left k p e r none =
-    let numbers = (named_parts new old e).0 in
+pub kept_paired : (old new : List Slot) (first : Option ℕ) (len : ℕ) (free : Option ℕ) (spare : ℕ) (h : IsLinks old first len free spare) → (m : IsMated old new h.nodes) → IsPut new first len free spare m.mated
+kept_paired old new first len free spare h m =
+    let numbers = (named_parts m.mated h.nodes m.named).0 in
     record {
-      is_list = paired_list new p (subst (IsDistinct (λ a b. a == b)) (sym numbers) k.is_list.distinct);
-      below = λ n l. k.below n (sym (live_named new old n numbers) ∙ l);
-      enough = let a = ap length e in let b = length-map new number_and_token in let c = length-map old number_and_token in let d = k.enough in omega arith;
-      none_open = none;
+      links = record {
+        nodes = m.mated;
+        frees = h.frees;
+        linked = m.linked;
+        first_is = h.first_is ∙ same_first h.nodes m.mated (sym numbers);
+        len_is = h.len_is ∙ sym (length-map h.nodes number_and_token) ∙ ap length (sym m.named) ∙ length-map m.mated number_and_token;
+        is_list = paired_list m.mated m.paired (subst (IsDistinct (λ a b. a == b)) (sym numbers) h.is_list.distinct);
+        free_linked = m.frees h.frees h.free_linked;
+        free_is = h.free_is;
+        spare_is = h.spare_is;
+        distinct = h.distinct;
+        all = h.all ∙ sym m.long;
+        few = let a = h.few in let b = m.long in omega (arith, a, b);
+      };
+      nodes_are = refl;
     }
+  where
+    same_first : (xs ys : List TokenNode) → map (λ x. x.number) xs ≡ map (λ x. x.number) ys → first_of xs ≡ first_of ys
+    same_first [] [] e = refl
+    same_first [] (y ∷ ys) e = absurd cc
+    same_first (x ∷ xs) [] e = absurd cc
+    same_first (x ∷ xs) (y ∷ ys) e = ap Some (head e)
+      where
+        head : {a b : ℕ} {u v : List ℕ} → a ∷ u ≡ b ∷ v → a ≡ b
+        head e = cc

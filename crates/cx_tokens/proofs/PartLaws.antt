@@ -1,15 +1,26 @@
 -- Edits keep token lists, and part the nodes that they take away from their partners.
-use Rattle.std.proofs.Common.{◌≡◌, ℕ, List, [], ◌∷◌, ◌++◌, Option, Some, None, Bool, true, false, ◌||◌, refl, sym, ap, ap₂, ◌∙◌, subst, append_assoc, ⊎_elim, cond, map, ◌==◌}
+use Rattle.std.proofs.Common.{◌≡◌, ℕ, List, [], ◌∷◌, ◌++◌, Option, Some, None, Bool, true, false, ◌||◌, refl, sym, ap, ap₂, ◌∙◌, subst, append_assoc, ⊎_elim, cond, map, ◌==◌, if◌then◌else◌}
 use Rattle.std.specs.List.{AllByRecursion, IsDistinct, list_any}
 use Rattle.std.proofs.lemmas.Bool.{cond-true, cond-false, cases_Bool, or_left, eq-eqb, false_from_ne_true}
 use Rattle.cx_tokens.specs.Nodes.{IsTokenList, TokenNode, is_live, live_partner, node_of, partner_in, partner_of, with_live_partners}
-use Rattle.cx_tokens.specs.Shapes.Edits.{without_partners, without_partner, partner_unless}
-use Rattle.cx_tokens.proofs.NodeLaws.{IsNumbered, dead_both, dead_parts, live_cases, live_left, live_right, node_left, node_right, numbered_append, numbered_apart, numbered_left, numbered_right, partner_live}
+use Rattle.cx_tokens.proofs.NodeLaws.{IsNumbered, numbered_none, dead_both, dead_parts, live_cases, live_left, live_right, node_left, node_right, numbered_append, numbered_apart, numbered_left, numbered_right, partner_live}
+
+-- ---- partners taken away
+
+-- a partner, unless it is one of these
+unfoldable pub partner_unless : List ℕ → Option ℕ → Option ℕ
+partner_unless gone None = None
+partner_unless gone (Some n) = if list_any (λ g. g == n) gone then None else Some n
+
+unfoldable pub without_partner : List ℕ → TokenNode → TokenNode
+without_partner gone x =
+    record { number = x.number; token = x.token; partner = partner_unless gone x.partner }
+
+-- nodes of which none has a partner among these
+unfoldable pub without_partners : List ℕ → List TokenNode → List TokenNode
+without_partners gone nodes = map (without_partner gone) nodes
 
 -- ---- settled lists
-
-one_settled : List TokenNode → TokenNode → TokenNode
-one_settled all x = record { number = x.number; token = x.token; partner = live_partner all x.partner }
 
 abbrev settled_in : List TokenNode → List TokenNode → List TokenNode
 settled_in all nodes = map (λ x. record { number = x.number; token = x.token; partner = live_partner all x.partner }) nodes
@@ -234,3 +245,11 @@ pub none_parted : (xs : List TokenNode) → without_partners [] xs ≡ xs
 unfolding without_partners without_partner
 none_parted [] = refl
 none_parted (x ∷ xs) = ap₂ (λ p t. record { number = x.number; token = x.token; partner = p } ∷ t) (none_without x.partner) (none_parted xs)
+
+-- ---- nodes that are all kept
+
+pub same_settled : (front back news : List TokenNode) → IsTokenList (front ++ back) → IsFresh news (front ++ back) → with_live_partners (front ++ (news ++ back)) ≡ front ++ (news ++ back)
+same_settled front back news l f = settled_parted front [] back news l f ∙ none_parted (front ++ (news ++ back))
+
+pub fresh_none : (nodes : List TokenNode) → IsFresh [] nodes
+fresh_none nodes = record { numbered = numbered_none; alone = tt; fresh = λ n l. absurd cc }

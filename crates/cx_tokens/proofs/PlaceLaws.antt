@@ -1,10 +1,8 @@
 -- What stands at a place.
-use Rattle.std.proofs.Common.{◌≡◌, ℕ, ◌-◌, ◌≤◌, arith, List, [], ◌∷◌, ◌++◌, Option, Some, None, true, false, refl, sym, ap, ap₂, ◌∙◌, subst, cond, length, length-append, ◌==◌, take, drop, get_or, suc, zero, append_assoc, IfSome, IsTrue, sub-one, ⊎_elim}
+use Rattle.std.proofs.Common.{◌≡◌, ℕ, List, [], ◌∷◌, ◌++◌, Option, Some, None, true, false, refl, sym, ap, ◌∙◌, subst, cond, ◌==◌, append_assoc, IfSome, IsTrue, ⊎_elim}
 use Rattle.std.proofs.lemmas.Bool.{both_ways, cases_Bool, cond-false, cond-true, eq-eqb, false_from_ne_true, or_left, or_parts, or_right}
-use Rattle.std.proofs.lemmas.List.{drop_at, get_or_at, take_at}
-use Rattle.cx_tokens.specs.Nodes.{TokenNode, nodes_before, nodes_after, first_of, nodes_from, inserted, is_live, last_of, node_of, nodes_to}
-use Rattle.cx_tokens.specs.Shapes.Edits.{place_after}
-use Rattle.cx_tokens.proofs.NodeLaws.{IsNumbered, found, live_left, live_right, numbered_apart}
+use Rattle.cx_tokens.specs.Nodes.{TokenNode, nodes_before, nodes_after, first_of, nodes_from, is_live, last_of, nodes_to}
+use Rattle.cx_tokens.proofs.NodeLaws.{IsNumbered, found, numbered_apart}
 
 pub first_live : (xs : List TokenNode) → IfSome (first_of xs) (λ n. IsTrue (is_live n xs))
 first_live [] = tt
@@ -19,73 +17,9 @@ last_live (x ∷ y ∷ xs) = live_on x (y ∷ xs) (last_of (y ∷ xs)) (last_liv
     live_on x xs None h = tt
     live_on x xs (Some n) h = or_right _ _ h
 
-pub live_within : (a b : List TokenNode) (o : Option ℕ) → IfSome o (λ n. IsTrue (is_live n b)) → IfSome o (λ n. IsTrue (is_live n (a ++ b)))
-live_within a b None h = tt
-live_within a b (Some n) h = live_right n a b h
-
-pub live_before : (a b : List TokenNode) (o : Option ℕ) → IfSome o (λ n. IsTrue (is_live n a)) → IfSome o (λ n. IsTrue (is_live n (a ++ b)))
-live_before a b None h = tt
-live_before a b (Some n) h = live_left n a b h
-
-pub at_place : (n : ℕ) (xs : List TokenNode) (x : TokenNode) → is_live n xs ≡ true → x ≡ get_or xs (length (nodes_before n xs)) x → node_of n xs ≡ Some x
-at_place n xs x l r =
-    let f = found n xs l in
-    let a = get_or_at (nodes_before n xs) f.node (nodes_after n xs) x (length (nodes_before n xs)) refl in
-    let b = ap (λ t. get_or t (length (nodes_before n xs)) x) f.whole in
-    f.is_node ∙ ap Some (sym (r ∙ b ∙ a))
-
-pub take_before : (n : ℕ) (xs : List TokenNode) → is_live n xs ≡ true → take (length (nodes_before n xs)) xs ≡ nodes_before n xs
-take_before n xs l =
-    let f = found n xs l in
-    ap (take (length (nodes_before n xs))) f.whole ∙ take_at (nodes_before n xs) (f.node ∷ nodes_after n xs) (length (nodes_before n xs)) refl
-
-length_up : (n : ℕ) (xs : List TokenNode) → is_live n xs ≡ true → length (nodes_to n xs) ≡ place_after (Some n) xs
-unfolding place_after
-length_up n xs l = let f = found n xs l in ap length f.up_there ∙ length-append (nodes_before n xs) (f.node ∷ []) ∙ omega arith
-
-whole_up : (n : ℕ) (xs : List TokenNode) → is_live n xs ≡ true → xs ≡ nodes_to n xs ++ nodes_after n xs
+pub whole_up : (n : ℕ) (xs : List TokenNode) → is_live n xs ≡ true → xs ≡ nodes_to n xs ++ nodes_after n xs
 whole_up n xs l =
     let f = found n xs l in f.whole ∙ sym (append_assoc (nodes_before n xs) (f.node ∷ []) (nodes_after n xs)) ∙ ap (λ t. t ++ nodes_after n xs) (sym f.up_there)
-
-pub drop_behind : (n : ℕ) (xs : List TokenNode) → is_live n xs ≡ true → drop (place_after (Some n) xs) xs ≡ nodes_after n xs
-drop_behind n xs l = ap (drop (place_after (Some n) xs)) (whole_up n xs l) ∙ drop_at (nodes_to n xs) (nodes_after n xs) (place_after (Some n) xs) (length_up n xs l)
-
-take_up : (n : ℕ) (xs : List TokenNode) → is_live n xs ≡ true → take (place_after (Some n) xs) xs ≡ nodes_to n xs
-take_up n xs l = ap (take (place_after (Some n) xs)) (whole_up n xs l) ∙ take_at (nodes_to n xs) (nodes_after n xs) (place_after (Some n) xs) (length_up n xs l)
-
-pub inserted_is : (at : Option ℕ) (x : TokenNode) (xs : List TokenNode) → IfSome at (λ n. IsTrue (is_live n xs))
-    → take (place_after at xs) xs ++ x ∷ drop (place_after at xs) xs ≡ inserted at x xs
-unfolding place_after
-inserted_is None x xs l = refl
-inserted_is (Some n) x xs l = ap₂ (λ a b. a ++ x ∷ b) (take_up n xs l) (drop_behind n xs l)
-
--- the last of the first ones stands at the index before
-pub last_taken : (i : ℕ) (xs : List TokenNode) → suc i ≤ length xs → last_of (take (suc i) xs) ≡ first_of (drop i xs)
-last_taken zero [] h = absurd (omega arith)
-last_taken (suc i) [] h = absurd (omega arith)
-last_taken zero (x ∷ xs) h = refl
-last_taken (suc i) (x ∷ []) h = absurd (omega arith)
-last_taken (suc i) (x ∷ y ∷ xs) h = last_taken i (y ∷ xs) (omega arith)
-
-before_append : (n : ℕ) (a b : List TokenNode) → is_live n a ≡ false → nodes_before n (a ++ b) ≡ a ++ nodes_before n b
-unfolding nodes_before
-before_append n [] b h = refl
-before_append n (x ∷ a) b h =
-    let p = or_parts _ _ h in cond-false (x.number == n) [] (x ∷ nodes_before n (a ++ b)) p.0 ∙ ap (λ t. x ∷ t) (before_append n a b p.1)
-
--- a node that stands at another or behind it
-pub in_order : (m n : ℕ) (xs : List TokenNode) → IsNumbered xs → is_live m xs ≡ true → is_live n (nodes_from m xs) ≡ true → length (nodes_before m xs) ≤ length (nodes_before n xs)
-in_order m n xs d l h =
-    let f = found m xs l in
-    let there : is_live n (f.node ∷ nodes_after m xs) ≡ true = subst (λ t. is_live n t ≡ true) f.from_there h in
-    let dead : is_live n (nodes_before m xs) ≡ false = false_from_ne_true (is_live n (nodes_before m xs))
-    (λ e. both_ways (is_live n (f.node ∷ nodes_after m xs)) (numbered_apart (nodes_before m xs) (f.node ∷ nodes_after m xs) (subst IsNumbered f.whole d) n e) there) in
-    let a = ap length (ap (nodes_before n) f.whole ∙ before_append n (nodes_before m xs) (f.node ∷ nodes_after m xs) dead) ∙ length-append (nodes_before m xs) (nodes_before n (f.node ∷ nodes_after m xs)) in
-    omega (arith, a)
-
-pub last_before : (i : ℕ) (xs : List TokenNode) → (i ≡ 0 → ⊥) → i ≤ length xs → last_of (take i xs) ≡ first_of (drop (i - 1) xs)
-last_before zero xs n h = absurd (n refl)
-last_before (suc i) xs n h = rw sub-one (last_taken i xs h)
 
 -- ---- what stands behind another
 
@@ -129,10 +63,6 @@ order_next m k xs o d h e = subst (λ t. IfSome t (λ n. IsTrue (is_live n (node
     within_from : (o : Option ℕ) → IfSome o (λ n. IsTrue (is_live n (nodes_after m xs))) → IfSome o (λ n. IsTrue (is_live n (nodes_from k xs)))
     within_from None l = tt
     within_from (Some n) l = live_in_behind n m k xs d h l
-
-pub inserted_live : (at : Option ℕ) (x : TokenNode) (xs : List TokenNode) → is_live x.number (inserted at x xs) ≡ true
-inserted_live None x xs = or_left _ _ (eq-eqb x.number x.number refl)
-inserted_live (Some n) x xs = live_right x.number (nodes_to n xs) (x ∷ nodes_after n xs) (or_left _ _ (eq-eqb x.number x.number refl))
 
 from_append : (n : ℕ) (a b : List TokenNode) → is_live n a ≡ false → nodes_from n (a ++ b) ≡ nodes_from n b
 unfolding nodes_from

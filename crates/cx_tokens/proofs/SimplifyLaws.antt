@@ -2,15 +2,13 @@
 use Rattle.std.proofs.Common.{◌≡◌, ℕ, List, [], ◌∷◌, ◌++◌, Option, Some, None, true, false, refl, sym, ap, ◌∙◌, subst, append_assoc, cond, codes}
 use Rattle.std.specs.List.{AllByRecursion}
 use Rattle.std.proofs.lemmas.Bool.{and_from, and_left, and_parts, cond-true, cond-false, not-true, not_from_false}
-use Rattle.cx_tokens.specs.declared.simplify.State.{State}
-use Rattle.cx_tokens.specs.declared.simplify.State.TheVariants.{AfterWord, Plain, Within}
 use Rattle.cx_tokens.specs.declared.token.Kind.{Kind}
 use Rattle.cx_tokens.specs.declared.token.Kind.TheVariants as kinds
 use Rattle.cx_tokens.specs.declared.token.Token.{Token}
 use Rattle.cx_tokens.specs.Nodes.{TokenNode}
 use Rattle.cx_tokens.specs.Brackets.{is_punctuator}
 use Rattle.cx_tokens.specs.Simplified.{attribute_words, is_name, is_string, is_word_of, joined, lone_words, strings_joined, with_strings}
-use Rattle.cx_tokens.specs.Shapes.Sweeping.{state_after, are_strings, state_at, joined_node, node_stays, staying_nodes, all_joined_to_end, joined_to_end, skipping}
+use Rattle.cx_tokens.specs.Shapes.Sweeping.{State, AfterWord, Plain, Within, state_after, are_strings, state_at, joined_node, node_stays, staying_nodes, all_joined_to_end, joined_to_end, skipping}
 use Rattle.cx_tokens.proofs.SweepLaws.{put_all_append, put_last}
 
 -- ---- the state after a word

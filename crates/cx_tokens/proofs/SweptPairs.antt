@@ -2,20 +2,16 @@
 use Rattle.std.proofs.Common.{◌≡◌, ℕ, ◌≤◌, arith, List, [], ◌∷◌, ◌++◌, Option, Some, None, IfSome, IsTrue, Bool, true, false, not, ◌&&◌, refl, sym, ap, ◌∙◌, subst, append-nil, cond, codes, length, ⊎_elim, ◌==◌}
 use Rattle.std.specs.List.{AllByRecursion}
 use Rattle.std.proofs.lemmas.Bool.{and_left, and_parts, both_ways, cases_Bool, cond-true, cond-false, eq-eqb, false_from_ne_true, or_cases, or_from, or_left, or_right}
-use Rattle.cx_tokens.specs.declared.simplify.State.{State}
-use Rattle.cx_tokens.specs.declared.simplify.State.TheVariants.{AfterWord, Plain, Within}
 use Rattle.cx_tokens.specs.declared.token.Kind.{Kind}
 use Rattle.cx_tokens.specs.declared.token.Kind.TheVariants as kinds
 use Rattle.cx_tokens.specs.declared.token.Token.{Token}
 use Rattle.cx_tokens.specs.Nodes.{TokenNode, nodes_before, nodes_after, nodes_from, is_live, node_of, partner_in, partner_of}
 use Rattle.cx_tokens.specs.Brackets.{IsPaired, closes, is_punct, is_punctuator, opens}
 use Rattle.cx_tokens.specs.Simplified.{attribute_words, is_name, is_string, is_word_of, joined, lone_words}
-use Rattle.cx_tokens.specs.Shapes.Edits.{IsValidList}
-use Rattle.cx_tokens.specs.Shapes.Sweeping.{IsStopped, state_after, are_strings, state_at, joined_node, node_stays, staying_nodes, all_joined_to_end, joined_to_end, state_after_all}
+use Rattle.cx_tokens.specs.Shapes.Sweeping.{IsPlainAt, State, AfterWord, Plain, Within, state_after, are_strings, state_at, joined_node, node_stays, staying_nodes, all_joined_to_end, joined_to_end, state_after_all}
 use Rattle.cx_tokens.proofs.NodeLaws.{IsNumbered, found, numbered_cons, numbered_head, numbered_tail, own_number, partner_live}
 use Rattle.cx_tokens.proofs.BracketLaws.{closing_opens_not, fitting_parts}
 use Rattle.cx_tokens.proofs.BalanceLaws.{IsBalanced, balanced_paired, closed, done, is_balanced, opened, passed}
-use Rattle.cx_tokens.proofs.MateLaws.{paired_list}
 use Rattle.cx_tokens.proofs.SimplifyLaws.{at_opening, at_other}
 
 -- ---- tokens that are no brackets
@@ -217,32 +213,6 @@ put_all_balanced d (x ∷ xs) stack rest h = put_all_balanced (joined_to_end d x
 
 -- ---- the brackets stay paired
 
-whole_held : (state : State) (stack : List TokenNode) → Held state stack [] → IsBalanced stack []
-unfolding Held
-whole_held Plain stack h = h
-whole_held AfterWord stack h = h
-whole_held (Within n) stack h = let r = later h.balanced h.above h.bracket stack refl in absurd (let a = r.2 in cc)
-
-pub whole_paired : (old : List TokenNode) → IsPaired old → IsNumbered old → IsPaired (all_joined_to_end [] (staying_nodes Plain old))
-unfolding Held
-whole_paired old h d =
-    let all = sym (append-nil old) in
-    let g = sweeps Plain [] old [] (subst (IsBalanced []) all (is_balanced h)) (subst IsNumbered all d) in
-    balanced_paired (subst (IsBalanced []) (append-nil (all_joined_to_end [] (staying_nodes Plain old))) (put_all_balanced [] (staying_nodes Plain old) [] [] (g.back [] (whole_held (state_after_all Plain old) g.next g.held))))
-
-part_held : (state : State) (stack : List TokenNode) (x : TokenNode) (xs : List TokenNode) → node_stays (state_at state x) x ≡ true → Held state stack (x ∷ xs) → IsBalanced stack (x ∷ xs)
-unfolding Held state_at node_stays
-part_held Plain stack x xs k h = h
-part_held AfterWord stack x xs k h = h
-part_held (Within n) stack x xs k h = absurd cc
-
-pub part_paired : (old new : List TokenNode) → IsStopped old new → IsPaired old → IsNumbered old → IsPaired new
-unfolding Held
-part_paired old new s h d =
-    let rest = s.next ∷ s.rest in
-    let g = sweeps Plain [] s.front rest (subst (IsBalanced []) s.whole (is_balanced h)) (subst IsNumbered s.whole d) in
-    balanced_paired (subst (IsBalanced []) (sym s.made) (put_all_balanced [] (staying_nodes Plain s.front) [] rest (g.back rest (part_held (state_after_all Plain s.front) g.next s.next s.rest s.stays g.held))))
-
 -- ---- each round bracket has one that closes it, and no attribute is cut off
 
 abbrev pub HasCloser : TokenNode → Type 0
@@ -336,25 +306,21 @@ swept_less : (front rest : List TokenNode) → IsLess (all_joined_to_end [] (sta
 swept_less front rest =
     less_on (all_joined_to_end [] (staying_nodes Plain front) ++ rest) (staying_nodes Plain front ++ rest) (front ++ rest) (put_all_less [] (staying_nodes Plain front) rest) (kept_less Plain front rest)
 
-kept_fewer : (old new : List TokenNode) (next room : ℕ) (stack : List ℕ) → IsValidList old next room stack → IsPaired new → IsLess new old → IsValidList new next room stack
-kept_fewer old new next room stack k p h = record {
-  is_list = paired_list new p (h.numbered k.is_list.distinct);
-  below = λ n l. k.below n (h.live n l);
-  enough = (let a = h.shorter in let b = k.enough in omega arith);
-  none_open = k.none_open;
-}
+-- nodes whose front is simplified
+pub front_numbered : (front rest : List TokenNode) → IsNumbered (front ++ rest) → IsNumbered (all_joined_to_end [] (staying_nodes Plain front) ++ rest)
+front_numbered front rest d = (swept_less front rest).numbered d
 
-pub whole_kept : (old : List TokenNode) (next room : ℕ) (stack : List ℕ) → IsValidList old next room stack → IsPaired old → IsValidList (all_joined_to_end [] (staying_nodes Plain old)) next room stack
-whole_kept old next room stack k p =
-    let e = swept_less old [] in
-    kept_fewer old (all_joined_to_end [] (staying_nodes Plain old)) next room stack k (whole_paired old p k.is_list.distinct)
-    (subst (IsLess (all_joined_to_end [] (staying_nodes Plain old))) (append-nil old) (subst (λ t. IsLess t (old ++ [])) (append-nil (all_joined_to_end [] (staying_nodes Plain old))) e))
+plain_held : (state : State) (stack rest : List TokenNode) → IsPlainAt state rest → Held state stack rest → IsBalanced stack rest
+unfolding Held
+plain_held Plain stack rest k h = h
+plain_held AfterWord stack rest k h = h
+plain_held (Within n) stack rest k h = absurd k
 
-pub part_kept : (old new : List TokenNode) (next room : ℕ) (stack : List ℕ) → IsStopped old new → IsValidList old next room stack → IsPaired old → IsValidList new next room stack
-part_kept old new next room stack s k p =
-    let rest = s.next ∷ s.rest in
-    kept_fewer old new next room stack k (part_paired old new s p k.is_list.distinct)
-    (subst (λ t. IsLess new t) (sym s.whole) (subst (λ t. IsLess t (s.front ++ rest)) (sym s.made) (swept_less s.front rest)))
+pub front_paired : (front rest : List TokenNode) → IsPlainAt (state_after_all Plain front) rest → IsPaired (front ++ rest) → IsNumbered (front ++ rest) → IsPaired (all_joined_to_end [] (staying_nodes Plain front) ++ rest)
+unfolding Held
+front_paired front rest k h d =
+    let g = sweeps Plain [] front rest (is_balanced h) d in
+    balanced_paired (put_all_balanced [] (staying_nodes Plain front) [] rest (g.back rest (plain_held (state_after_all Plain front) g.next rest k g.held)))
 
 -- ---- a closing bracket stands behind the one that it closes
 

@@ -4,12 +4,10 @@ use Rattle.std.specs.Prelude.{bytes_eq}
 use Rattle.std.specs.List.{AllByRecursion, list_any}
 use Rattle.std.proofs.lemmas.Bool.{and_from, and_parts, and_right, both_ways, cases_Bool, cond-false, cond-true, eq-eqb, false_from_ne_true, not-true, not_from_false, or_cases, or_from, or_left, or_parts}
 use Rattle.std.proofs.lemmas.Slice.Eq.{bytes_eq-Decides}
-use Rattle.cx_tokens.specs.declared.simplify.State.{State}
-use Rattle.cx_tokens.specs.declared.simplify.State.TheVariants.{AfterWord, Plain, Within}
 use Rattle.cx_tokens.specs.Nodes.{TokenNode, is_live}
 use Rattle.cx_tokens.specs.Brackets.{IsPaired, is_punctuator}
 use Rattle.cx_tokens.specs.Simplified.{IsPartlySimplified, IsSimplified, IsUnadorned, attribute, attribute_words, bare_word, begins_round, is_erased_word, is_word_of, lone_word, lone_words, nothing, other, strings_joined}
-use Rattle.cx_tokens.specs.Shapes.Sweeping.{IsStopped, state_after, state_at, node_stays, staying_nodes, all_joined_to_end, state_after_all}
+use Rattle.cx_tokens.specs.Shapes.Sweeping.{State, AfterWord, Plain, Within, IsStopped, state_after, state_at, node_stays, staying_nodes, all_joined_to_end, state_after_all}
 use Rattle.cx_tokens.proofs.NodeLaws.{IsNumbered, numbered_apart, numbered_right, numbered_tail, own_number}
 use Rattle.cx_tokens.proofs.SweepLaws.{kept_append, put_all_append}
 use Rattle.cx_tokens.proofs.SimplifyLaws.{AreApart, ArePlain, all_joined, apart_same, at_opening, at_other, behind_entered, put_all_apart, put_all_plain, stays_same, sweep_more}
@@ -43,15 +41,15 @@ plain_leaves : (x : TokenNode) (xs : List TokenNode) → Leaves (state_after Pla
 unfolding staying_nodes state_at node_stays state_after
 plain_leaves x xs h = plain_cases (is_word_of attribute_words x.token) (is_word_of lone_words x.token) x xs refl refl h
 
-kept_within : (n : ℕ) (x : TokenNode) (xs : List TokenNode) → staying_nodes (Within n) (x ∷ xs) ≡ staying_nodes (state_after (Within n) x) xs
+pub kept_within : (n : ℕ) (x : TokenNode) (xs : List TokenNode) → staying_nodes (Within n) (x ∷ xs) ≡ staying_nodes (state_after (Within n) x) xs
 unfolding staying_nodes state_at node_stays
 kept_within n x xs = refl
 
-after_within : (n : ℕ) (x : TokenNode) → (x.number == n) ≡ false → state_after (Within n) x ≡ Within n
+pub after_within : (n : ℕ) (x : TokenNode) → (x.number == n) ≡ false → state_after (Within n) x ≡ Within n
 unfolding state_after
 after_within n x d = cond-false (x.number == n) Plain (Within n) d
 
-ends_within : (n : ℕ) (x : TokenNode) → (x.number == n) ≡ true → state_after (Within n) x ≡ Plain
+pub ends_within : (n : ℕ) (x : TokenNode) → (x.number == n) ≡ true → state_after (Within n) x ≡ Plain
 unfolding state_after
 ends_within n x d = cond-true (x.number == n) Plain (Within n) d
 
@@ -83,13 +81,13 @@ behind_round n x xs b p d h = λ word a.
 behind_other : (x : TokenNode) (xs : List TokenNode) → is_punctuator (codes "(") x.token ≡ false → IsUnadorned (x ∷ xs) (staying_nodes Plain (x ∷ xs)) → Leaves AfterWord (x ∷ xs) (staying_nodes AfterWord (x ∷ xs))
 behind_other x xs b h = λ word a. subst (IsUnadorned (word ∷ x ∷ xs)) (sym (behind_entered x xs Plain (at_other x b))) (bare_word a b h)
 
-state_round : (n : ℕ) (x : TokenNode) (xs : List TokenNode) → is_punctuator (codes "(") x.token ≡ true → x.partner ≡ Some n → (x.number == n) ≡ false
+pub state_round : (n : ℕ) (x : TokenNode) (xs : List TokenNode) → is_punctuator (codes "(") x.token ≡ true → x.partner ≡ Some n → (x.number == n) ≡ false
     → state_after_all AfterWord (x ∷ xs) ≡ state_after_all (Within n) xs
 unfolding state_after_all state_at
 state_round n x xs b p d =
     ap (λ s. state_after_all (state_after s x) xs) (at_opening x (Some n) b p) ∙ ap (λ s. state_after_all s xs) (after_within n x d)
 
-state_other : (x : TokenNode) (xs : List TokenNode) → is_punctuator (codes "(") x.token ≡ false → state_after_all AfterWord (x ∷ xs) ≡ state_after_all (state_after Plain x) xs
+pub state_other : (x : TokenNode) (xs : List TokenNode) → is_punctuator (codes "(") x.token ≡ false → state_after_all AfterWord (x ∷ xs) ≡ state_after_all (state_after Plain x) xs
 unfolding state_after_all state_at
 state_other x xs b = ap (λ s. state_after_all (state_after s x) xs) (at_other x b)
 
@@ -111,13 +109,13 @@ leaves AfterWord (x ∷ xs) h o =
 
 -- ---- nothing else is left
 
-skip_to : (n : ℕ) (inner : List TokenNode) (b : TokenNode) (rest : List TokenNode) → is_live n inner ≡ false → b.number ≡ n → staying_nodes (Within n) (inner ++ b ∷ rest) ≡ staying_nodes Plain rest
+pub skip_to : (n : ℕ) (inner : List TokenNode) (b : TokenNode) (rest : List TokenNode) → is_live n inner ≡ false → b.number ≡ n → staying_nodes (Within n) (inner ++ b ∷ rest) ≡ staying_nodes Plain rest
 skip_to n [] b rest l e = kept_within n b rest ∙ ap (λ s. staying_nodes s rest) (ends_within n b (eq-eqb b.number n e))
 skip_to n (x ∷ inner) b rest l e =
     let p = or_parts _ _ l in
     kept_within n x (inner ++ b ∷ rest) ∙ ap (λ s. staying_nodes s (inner ++ b ∷ rest)) (after_within n x p.0) ∙ skip_to n inner b rest p.1 e
 
-kept_attribute : (word : TokenNode) (xs : List TokenNode) → is_word_of attribute_words word.token ≡ true → staying_nodes Plain (word ∷ xs) ≡ staying_nodes AfterWord xs
+pub kept_attribute : (word : TokenNode) (xs : List TokenNode) → is_word_of attribute_words word.token ≡ true → staying_nodes Plain (word ∷ xs) ≡ staying_nodes AfterWord xs
 unfolding staying_nodes state_at node_stays state_after
 kept_attribute word xs a = word_case (is_word_of attribute_words word.token) (is_word_of lone_words word.token) a
   where
@@ -125,12 +123,12 @@ kept_attribute word xs a = word_case (is_word_of attribute_words word.token) (is
     word_case true l e = refl
     word_case false l e = absurd cc
 
-kept_bare : (word : TokenNode) (xs : List TokenNode) → begins_round xs ≡ false → staying_nodes AfterWord xs ≡ staying_nodes Plain xs
+pub kept_bare : (word : TokenNode) (xs : List TokenNode) → begins_round xs ≡ false → staying_nodes AfterWord xs ≡ staying_nodes Plain xs
 unfolding staying_nodes
 kept_bare word [] b = refl
 kept_bare word (x ∷ xs) b = behind_entered x xs Plain (at_other x b)
 
-kept_lone : (word : TokenNode) (xs : List TokenNode) → is_word_of lone_words word.token ≡ true → is_word_of attribute_words word.token ≡ false → staying_nodes Plain (word ∷ xs) ≡ staying_nodes Plain xs
+pub kept_lone : (word : TokenNode) (xs : List TokenNode) → is_word_of lone_words word.token ≡ true → is_word_of attribute_words word.token ≡ false → staying_nodes Plain (word ∷ xs) ≡ staying_nodes Plain xs
 unfolding staying_nodes state_at node_stays state_after
 kept_lone word xs l w = lone_case (is_word_of attribute_words word.token) (is_word_of lone_words word.token) w l
   where

@@ -124,3 +124,8 @@ StandsFrom start n nodes = is_live n (nodes_from start nodes) ≡ true
 pub record IsTokenList (nodes : List TokenNode) : Type 0 where
   pub distinct : IsDistinct (λ a b. a == b) (map (λ x. x.number) nodes)
   pub mutual_partners : (n m : ℕ) → partner_of n nodes ≡ Some m → partner_of m nodes ≡ Some n
+
+-- What a token list is: its nodes in order, and for how many more it has room.
+pub record TokenNodes : Type 0 where
+  pub nodes : List TokenNode
+  pub spare : ℕ

@@ -1,3 +1,3 @@
-pub mod Edits
+pub mod Links
 pub mod Pairing
 pub mod Sweeping

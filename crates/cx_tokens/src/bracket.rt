@@ -1,10 +1,10 @@
 //! Brackets, and which of them fit.
-ghost use Rattle.std.specs.Prelude.{◌≡◌, ◌+◌, ◌<◌, ◌≤◌, [], MatchOption, if◌then◌else◌, length, map, slice_index_or, slice_set, take, vec_capacity, vec_len};
-ghost use Rattle.cx_tokens.specs.Brackets.{IsNested, IsPaired, IsUnpaired, closes, fits, is_punctuator, opens};
-ghost use Rattle.cx_tokens.specs.Nodes.{TokenNode, tokens};
-ghost use Rattle.cx_tokens.specs.Shapes.Pairing.{IsHalfPaired, IsRead, number_and_token, with_partner};
+ghost use Rattle.std.specs.Prelude.{◌≡◌, ◌+◌, ◌<◌, ◌≤◌, ◌++◌, ◌∷◌, [], MatchOption, None, Some, if◌then◌else◌, length, vec_capacity, vec_len};
+ghost use Rattle.cx_tokens.specs.Brackets.{IsNested, IsUnpaired, closes, fits, is_punctuator, opens};
+ghost use Rattle.cx_tokens.specs.Nodes.{tokens};
+ghost use Rattle.cx_tokens.specs.Shapes.Pairing.{IsChain, IsHalfPaired, IsMated, IsPairedTo, IsRead, IsReadTo};
 
-use crate::entry::Entry;
+use crate::slots::{Slot, set_mate, token_at};
 use crate::token::{Kind, Token};
 use cx_base::Place;
 
@@ -56,49 +56,54 @@ pub fn fits(opening_token: &Token, closing_token: &Token) -> bool
     false
 }
 
-// Where the brackets of entries are not nested, if somewhere. The stack has room for all entries;
-// it is empty before and after.
-pub fn unpaired_place(entries: &[Entry], stack: &mut Vec<usize>) -> Option<Place>
+// Where the brackets of linked nodes are not nested, if somewhere. The stack has room for all
+// nodes; it is empty before and after.
+pub fn unpaired_place(slots: &[Slot], first: Option<u32>, stack: &mut Vec<u32>) -> Option<Place>
+    requires chain { IsChain slots.now first }
     requires empty { stack.old.items ≡ [] }
-    requires room { length entries.now ≤ vec_capacity stack.old }
-    ensures place { MatchOption result (IsNested (tokens entries.now)) (IsUnpaired (tokens entries.now)) }
+    requires room { length slots.now ≤ vec_capacity stack.old }
+    ensures place { (h : IsChain slots.now first)
+        → MatchOption result (IsNested (tokens h.nodes)) (IsUnpaired (tokens h.nodes)) }
     ensures emptied { stack.new.items ≡ [] }
     ensures room { vec_capacity stack.new ≡ vec_capacity stack.old }
 {
-    let place = first_unpaired(entries, stack);
+    let place = first_unpaired(slots, first, stack);
     stack.clear();
     place
 }
 
-fn first_unpaired(entries: &[Entry], stack: &mut Vec<usize>) -> Option<Place>
+fn first_unpaired(slots: &[Slot], first: Option<u32>, stack: &mut Vec<u32>) -> Option<Place>
+    requires chain { IsChain slots.now first }
     requires empty { stack.old.items ≡ [] }
-    requires room { length entries.now ≤ vec_capacity stack.old }
-    ensures place { MatchOption result (IsNested (tokens entries.now)) (IsUnpaired (tokens entries.now)) }
+    requires room { length slots.now ≤ vec_capacity stack.old }
+    ensures place { (h : IsChain slots.now first)
+        → MatchOption result (IsNested (tokens h.nodes)) (IsUnpaired (tokens h.nodes)) }
     ensures room { vec_capacity stack.new ≡ vec_capacity stack.old }
 {
-    for index in 0..entries.len() {
-        if let Some(place) = read(entries, stack, index) {
+    let mut at = first;
+    while let Some(number) = at {
+        if let Some(place) = read(slots, stack, number) {
             return Some(place);
         }
+        at = slots[number as usize].next;
     }
     let start = stack.pop()?;
-    Some(entries[start].token().place)
+    Some(token_at(slots, start).place)
 }
 
-// Reads one more entry, and answers its place where it is a closing bracket that does not fit.
-fn read(entries: &[Entry], stack: &mut Vec<usize>, index: usize) -> Option<Place>
-    requires within { index < length entries.now }
-    requires few { vec_len stack.old ≤ index }
-    requires room { length entries.now ≤ vec_capacity stack.old }
-    requires so_far { IsRead (take index entries.now) stack.old.items }
-    ensures so_far { MatchOption result (IsRead (take (index + 1) entries.now) stack.new.items)
-        (IsUnpaired (tokens entries.now)) }
-    ensures few { vec_len stack.new ≤ index + 1 }
+// Reads one more node, and answers its place where it is a closing bracket that does not fit.
+fn read(slots: &[Slot], stack: &mut Vec<u32>, number: u32) -> Option<Place>
+    requires so_far { IsReadTo slots.now number stack.old.items }
+    requires room { vec_len stack.old < vec_capacity stack.old }
+    ensures so_far { (h : IsReadTo slots.now number stack.old.items)
+        → MatchOption result (IsRead (h.front ++ h.node ∷ []) stack.new.items)
+        (IsUnpaired (tokens (h.front ++ h.node ∷ h.rest))) }
+    ensures few { vec_len stack.new ≤ vec_len stack.old + 1 }
     ensures room { vec_capacity stack.new ≡ vec_capacity stack.old }
 {
-    let token = entries[index].token();
+    let token = token_at(slots, number);
     if opens(token) {
-        stack.push_reserved(index);
+        stack.push_reserved(number);
         return None;
     }
     if !closes(token) {
@@ -106,7 +111,7 @@ fn read(entries: &[Entry], stack: &mut Vec<usize>, index: usize) -> Option<Place
     }
     match stack.pop() {
         None => Some(token.place),
-        Some(start) => unfit_place(entries[start].token(), token),
+        Some(start) => unfit_place(token_at(slots, start), token),
     }
 }
 
@@ -123,71 +128,46 @@ fn unfit_place(opening_token: &Token, closing_token: &Token) -> Option<Place>
     }
 }
 
-// Writes the partners of all brackets, which are nested, and takes away those of other entries. The
-// stack has room for all entries; it is empty before and after.
-pub fn pair(entries: &mut Vec<Entry>, stack: &mut Vec<usize>)
-    requires nested { IsNested (tokens entries.old.items) }
+// Writes the partners of all brackets of linked nodes, which are nested, and takes away those of
+// other nodes. The stack has room for all nodes; it is empty before and after.
+pub fn pair(slots: &mut Vec<Slot>, first: Option<u32>, stack: &mut Vec<u32>)
+    requires chain { IsChain slots.old.items first }
+    requires nested { (h : IsChain slots.old.items first) → IsNested (tokens h.nodes) }
     requires empty { stack.old.items ≡ [] }
-    requires room { length entries.old.items ≤ vec_capacity stack.old }
-    ensures paired { IsPaired entries.new.items }
-    ensures number_and_token { map number_and_token entries.new.items
-        ≡ map number_and_token entries.old.items }
+    requires room { length slots.old.items ≤ vec_capacity stack.old }
+    ensures paired { (h : IsChain slots.old.items first)
+        → IsMated slots.old.items slots.new.items h.nodes }
     ensures emptied { stack.new.items ≡ [] }
     ensures room { vec_capacity stack.new ≡ vec_capacity stack.old }
 {
-    for index in 0..entries.len() {
-        pair_one(entries, stack, index);
+    let mut at = first;
+    while let Some(number) = at {
+        at = slots[number as usize].next;
+        pair_one(slots, stack, number);
     }
 }
 
-// Pairs one more entry with those before it.
-fn pair_one(entries: &mut Vec<Entry>, stack: &mut Vec<usize>, index: usize)
-    requires within { index < length entries.old.items }
-    requires few { vec_len stack.old ≤ index }
-    requires room { length entries.old.items ≤ vec_capacity stack.old }
-    requires so_far { IsHalfPaired entries.old.items index stack.old.items }
-    ensures so_far { IsHalfPaired entries.new.items (index + 1) stack.new.items }
-    ensures number_and_token { map number_and_token entries.new.items
-        ≡ map number_and_token entries.old.items }
-    ensures few { vec_len stack.new ≤ index + 1 }
+// Pairs one more node with those before it.
+fn pair_one(slots: &mut Vec<Slot>, stack: &mut Vec<u32>, number: u32)
+    requires so_far { IsHalfPaired slots.old.items number stack.old.items }
+    requires room { vec_len stack.old < vec_capacity stack.old }
+    ensures so_far { (h : IsHalfPaired slots.old.items number stack.old.items)
+        → IsPairedTo slots.old.items slots.new.items stack.new.items (h.front ++ h.node ∷ h.rest)
+        h.rest }
+    ensures few { vec_len stack.new ≤ vec_len stack.old + 1 }
     ensures room { vec_capacity stack.new ≡ vec_capacity stack.old }
 {
-    let token = entries[index].token();
+    let token = token_at(slots.as_slice(), number);
     if opens(token) {
-        stack.push_reserved(index);
+        stack.push_reserved(number);
         return;
     }
     if !closes(token) {
-        set_partner(entries, index, None);
+        set_mate(slots, number, None);
         return;
     }
     if let Some(start) = stack.pop() {
-        link(entries, start, index);
+        set_mate(slots, start, Some(number));
+        set_mate(slots, number, Some(start));
     }
-}
-
-// Makes two entries partners.
-fn link(entries: &mut Vec<Entry>, start: usize, end: usize)
-    requires ordered { start < end }
-    requires within { end < length entries.old.items }
-    ensures { (a b : TokenNode) → a ≡ slice_index_or entries.old.items start a
-        → b ≡ slice_index_or entries.old.items end b
-        → entries.new.items
-        ≡ slice_set (slice_set entries.old.items start (with_partner a (Some b.number))) end
-        (with_partner b (Some a.number)) }
-{
-    let opening = entries[start].number();
-    let closing = entries[end].number();
-    set_partner(entries, start, Some(closing));
-    set_partner(entries, end, Some(opening));
-}
-
-#[tactic(auto, unfolding(crate::specs::Shapes::Pairing::with_partner))]
-fn set_partner(entries: &mut Vec<Entry>, index: usize, partner: Option<u32>)
-    requires { index < length entries.old.items }
-    ensures { (a : TokenNode) → a ≡ slice_index_or entries.old.items index a
-        → entries.new.items ≡ slice_set entries.old.items index (with_partner a partner) }
-{
-    let entry = &mut entries[index];
-    entry.set_partner(partner);
 }

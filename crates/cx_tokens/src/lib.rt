@@ -13,10 +13,10 @@ pub use token_list::{TokenList, Unpaired};
 
 mod bracket;
 mod digraph;
-mod entry;
 mod laws;
 mod node;
 mod simplify;
+mod slots;
 #[cfg(test)]
 mod tests;
 mod token;

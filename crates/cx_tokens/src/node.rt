@@ -27,7 +27,8 @@ impl Node {
         Node { number }
     }
 
-    pub(crate) fn number(self) -> u32
+    /// A node's number.
+    pub fn number(self) -> u32
         ensures { result ≡ self }
     {
         self.number

@@ -1,16 +1,16 @@
 //! Simplified token lists.
-ghost use Rattle.std.specs.Prelude.{◌≡◌, ◌+◌, ◌-◌, ◌++◌, ◌<◌, List as list, [], true, IfOk, OnErr, OnOk, length, take, drop, slice_index_or, slice_set};
-ghost use Rattle.std.specs.List.{remove};
-ghost use Rattle.cx_tokens.specs.declared.simplify.State.TheVariants.{AfterWord, Plain};
-ghost use Rattle.cx_tokens.specs.Nodes.{TokenNode};
-ghost use Rattle.cx_tokens.specs.Simplified.{attribute_words, is_string, is_word_of, lone_words, parts_of};
-ghost use Rattle.cx_tokens.specs.Shapes.Sweeping.{IsStopped, IsSwept, state_after, are_strings, state_at, joined_node, node_stays, staying_nodes, all_joined_to_end, joined_to_end, with_text};
+ghost use Rattle.std.specs.Prelude.{◌≡◌, ◌-◌, ◌++◌, [], true, IfOk, IsTrue, MatchOption, OnErr, OnOk, Some, length, take, drop};
+ghost use Rattle.cx_tokens.specs.declared.token.Token.{Token as token_type};
+ghost use Rattle.cx_tokens.specs.Brackets.{IsPaired};
+ghost use Rattle.cx_tokens.specs.Nodes.{StandsFrom, first_of, is_live, nodes_after, spliced, token_of};
+ghost use Rattle.cx_tokens.specs.Simplified.{IsPartlySimplified, IsSimplified, attribute_words, is_string, is_word_of, lone_words, parts_of};
+ghost use Rattle.cx_tokens.specs.Shapes.Sweeping.{HasNoString, IsGone, StringOf, IsNextString, IsRun, IsStaying, IsStringAt, Sweeps};
 
 use crate::bracket::is_punctuator;
-use crate::entry::Entry;
+use crate::node::Node;
 use crate::token::{Kind, Token};
-use cx_base::{List, NoMemory, Text};
-use std::alloc::Global;
+use crate::token_list::TokenList;
+use cx_base::{List, NoMemory, SharedList, Text};
 
 // The words that go with a round bracket directly after them.
 const ATTRIBUTE_WORDS: [&[u8]; 3] = [b"__attribute__", b"__declspec", b"_Pragma"];
@@ -27,74 +27,6 @@ const LONE_WORDS: [&[u8]; 9] = [
     b"__restrict",
     b"__extension__",
 ];
-
-// What stands directly before an entry.
-#[derive(Clone, Copy)]
-pub enum State {
-    // Nothing that goes.
-    Plain,
-    // A word of an attribute: a round bracket goes with it.
-    AfterWord,
-    // A part of what goes with a word, up to the node of this number.
-    Within(u32),
-}
-
-impl State {
-    // The state at an entry.
-    #[tactic(auto, unfolding(crate::specs::Shapes::Sweeping::state_at))]
-    fn state_at(self, entry: &Entry) -> State
-        ensures { result ≡ state_at self entry.now }
-    {
-        match self {
-            State::AfterWord => at_bracket(entry),
-            state => state,
-        }
-    }
-
-    // Whether an entry stays.
-    #[tactic(auto, unfolding(crate::specs::Shapes::Sweeping::node_stays))]
-    fn node_stays(self, entry: &Entry) -> bool
-        ensures { result ≡ node_stays self entry.now }
-    {
-        match self {
-            State::Plain => !is_attribute_word(entry.token()) && !is_lone_word(entry.token()),
-            _ => false,
-        }
-    }
-
-    // The state after an entry.
-    #[tactic(auto, unfolding(crate::specs::Shapes::Sweeping::state_after))]
-    fn state_after(self, entry: &Entry) -> State
-        ensures { result ≡ state_after self entry.now }
-    {
-        if let State::Within(number) = self {
-            return if entry.number() == number {
-                State::Plain
-            } else {
-                self
-            };
-        }
-        if is_attribute_word(entry.token()) {
-            State::AfterWord
-        } else {
-            State::Plain
-        }
-    }
-}
-
-// The state at an entry that stands after a word of an attribute.
-#[tactic(auto, unfolding(crate::specs::Shapes::Sweeping::state_at))]
-fn at_bracket(entry: &Entry) -> State
-    ensures { result ≡ state_at AfterWord entry.now }
-{
-    if !is_punctuator(b"(", entry.token()) {
-        return State::Plain;
-    }
-    match entry.partner() {
-        None => State::Plain,
-        Some(number) => State::Within(number),
-    }
-}
 
 #[tactic(auto, unfolding(crate::specs::Simplified::is_word_of))]
 fn is_attribute_word(token: &Token) -> bool
@@ -126,134 +58,225 @@ fn is_lone_word(token: &Token) -> bool
     false
 }
 
-// The bytes of two strings, without the quotes between.
-fn joined_text(alloc: Global, first: &Text, second: &Text) -> Result<Text, NoMemory>
-    ensures { IfOk result
-        (λ text. text ≡ take (length first.now - 1) first.now ++ drop 1 second.now) }
+fn is_string(token: &Token) -> bool
+    ensures { result ≡ is_string token.now.kind }
 {
-    let front = first.as_slice();
-    let back = second.as_slice();
-    let mut text = Text::from_slice(alloc, &front[..front.len().saturating_sub(1)])?;
-    text.push_all(&back[back.len().min(1)..])?;
-    Ok(text)
-}
-
-// How many bytes each string of a token has between its quotes.
-fn parts_of(alloc: Global, token: &Token) -> Result<List<usize>, NoMemory>
-    ensures { IfOk result (λ parts. parts ≡ parts_of token.now.text token.now.parts) }
-{
-    if token.parts.len() > 0 {
-        return token.parts.copy();
+    match token.kind {
+        Kind::String => true,
+        _ => false,
     }
-    let mut parts = List::new(alloc);
-    parts.push(token.text.len().saturating_sub(2))?;
-    Ok(parts)
 }
 
-// The parts of two strings that are joined.
-fn joined_parts(alloc: Global, first: &Token, second: &Token) -> Result<List<usize>, NoMemory>
-    ensures { IfOk result
-        (λ parts. parts
-        ≡ parts_of first.now.text first.now.parts ++ parts_of second.now.text second.now.parts) }
+// The last node of what goes with a word, and none where the node stays.
+fn word_end(list: &TokenList, node: Node) -> Option<Node>
+    requires live { IsTrue (is_live node list.now.nodes) }
+    requires paired { IsPaired list.now.nodes }
+    ensures { MatchOption result (IsStaying list.now.nodes node) (IsGone list.now.nodes node) }
 {
-    let mut parts = parts_of(alloc, first)?;
-    parts.append(parts_of(alloc, second)?)?;
-    Ok(parts)
+    list.are_numbered();
+    let token = list.token(node);
+    if is_lone_word(token) {
+        return Some(node);
+    }
+    if !is_attribute_word(token) {
+        return None;
+    }
+    Some(attribute_end(list, node))
 }
 
-// Simplifies all entries. Where memory runs out, those after are left as they are.
-pub fn sweep(entries: &mut Vec<Entry>) -> Result<(), NoMemory>
-    ensures ok { OnOk result
-        (entries.new.items ≡ all_joined_to_end [] (staying_nodes Plain entries.old.items)) }
-    ensures err { OnErr result (IsStopped entries.old.items entries.new.items) }
+// The last node of an attribute: the partner of a round bracket directly after its word, else the
+// word.
+fn attribute_end(list: &TokenList, word: Node) -> Node
+    requires live { IsTrue (is_live word list.now.nodes) }
+    requires paired { IsPaired list.now.nodes }
+    requires attribute { (t : token_type) → token_of word list.now.nodes ≡ Some t
+        → is_word_of attribute_words t ≡ true }
+    ensures { IsGone list.now.nodes word result }
 {
-    let mut state = State::Plain;
-    let mut index = 0;
-    while index < entries.len() {
-        (index, state) = step(entries, index, state)?;
+    list.are_numbered();
+    let Some(bracket) = list.next(word) else {
+        return word;
+    };
+    if !is_punctuator(b"(", list.token(bracket)) {
+        return word;
+    }
+    match list.partner(bracket) {
+        None => word,
+        Some(end) => end,
+    }
+}
+
+// The next node behind another that stays, if it is a string.
+fn string_after(list: &TokenList, at: Node) -> Option<Node>
+    requires live { IsTrue (is_live at list.now.nodes) }
+    requires paired { IsPaired list.now.nodes }
+    ensures { MatchOption result (HasNoString list.now.nodes at) (IsNextString list.now.nodes at) }
+{
+    list.are_numbered();
+    let mut next = list.next(at);
+    while let Some(node) = next {
+        match word_end(list, node) {
+            Some(end) => next = list.next(end),
+            None => return string_at(list, node),
+        }
+    }
+    None
+}
+
+// A node, if it is a string.
+fn string_at(list: &TokenList, node: Node) -> Option<Node>
+    requires { IsTrue (is_live node list.now.nodes) }
+    ensures { StringOf list.now.nodes node result }
+{
+    if is_string(list.token(node)) {
+        Some(node)
+    } else {
+        None
+    }
+}
+
+// Puts a string to the end of others, without the quotes between.
+fn join(text: &mut Text, parts: &mut List<usize>, token: &Token) -> Result<(), NoMemory>
+    ensures text { OnOk result
+        (text.new ≡ take (length text.old - 1) text.old ++ drop 1 token.now.text) }
+    ensures parts { OnOk result
+        (parts.new ≡ parts.old ++ parts_of token.now.text token.now.parts) }
+{
+    let more = token.text.as_slice();
+    text.truncate(text.len().saturating_sub(1));
+    text.push_all(&more[more.len().min(1)..])?;
+    push_parts(parts, token)
+}
+
+// Adds how many bytes each string of a token has between its quotes.
+fn push_parts(parts: &mut List<usize>, token: &Token) -> Result<(), NoMemory>
+    ensures { OnOk result (parts.new ≡ parts.old ++ parts_of token.now.text token.now.parts) }
+{
+    if token.parts.len() == 0 {
+        return parts.push(token.text.len().saturating_sub(2));
+    }
+    push_each(parts, token.parts.as_slice())
+}
+
+fn push_each(parts: &mut List<usize>, more: &[usize]) -> Result<(), NoMemory>
+    ensures { OnOk result (parts.new ≡ parts.old ++ more.now) }
+{
+    for part in more {
+        parts.push(*part)?;
     }
     Ok(())
 }
 
-// Simplifies one more entry, and answers the index after it with the state there. A refused call
-// changes nothing.
-fn step(entries: &mut Vec<Entry>, index: usize, state: State) -> Result<(usize, State), NoMemory>
-    requires { index < length entries.old.items }
-    ensures swept { IfOk result
-        (λ r. (all : list TokenNode) → IsSwept all entries.old.items index state
-        → IsSwept all entries.new.items r.0 r.1) }
-    ensures shorter { IfOk result
-        (λ r. length (drop r.0 entries.new.items) < length (drop index entries.old.items)) }
-    ensures err { OnErr result (entries.new.items ≡ entries.old.items) }
-    ensures stays { OnErr result
-        ((x : TokenNode) → x ≡ slice_index_or entries.old.items index x
-        → node_stays (state_at state x) x ≡ true) }
+// The text and the parts of adjacent strings, and the last of them.
+#[derive(Debug, Drop)]
+struct Run {
+    text: Text,
+    parts: SharedList<usize>,
+    last: Node,
+}
+
+// Joins a string, the next one, and those after it.
+fn joined(list: &TokenList, first: Node, second: Node) -> Result<Run, NoMemory>
+    requires live { IsTrue (is_live first list.now.nodes) }
+    requires paired { IsPaired list.now.nodes }
+    requires next { IsNextString list.now.nodes first second }
+    ensures { IfOk result (λ r. IsRun list.now.nodes first r.text r.parts r.last) }
 {
-    let entry = &entries[index];
-    let here = state.state_at(entry);
-    let next = here.state_after(entry);
-    if here.node_stays(entry) {
-        return Ok((joined_to_end(entries, index)?, next));
+    list.are_numbered();
+    let token = list.token(first);
+    let mut text = token.text.copy()?;
+    let mut parts = List::new(list.allocator());
+    push_parts(&mut parts, token)?;
+    join(&mut text, &mut parts, list.token(second))?;
+    let mut last = second;
+    let mut at = string_after(list, last);
+    while let Some(node) = at {
+        join(&mut text, &mut parts, list.token(node))?;
+        last = node;
+        at = string_after(list, node);
     }
-    entries.remove(index);
-    Ok((index, next))
+    let parts = SharedList::from_list(list.allocator(), parts)?;
+    Ok(Run { text, parts, last })
 }
 
-// Joins an entry to the one before, if both are strings, and answers the index after it. A refused
-// call changes nothing.
-fn joined_to_end(entries: &mut Vec<Entry>, index: usize) -> Result<usize, NoMemory>
-    requires { index < length entries.old.items }
-    ensures made { IfOk result
-        (λ i. (x : TokenNode) → x ≡ slice_index_or entries.old.items index x
-        → take i entries.new.items ≡ joined_to_end (take index entries.old.items) x) }
-    ensures rest { IfOk result
-        (λ i. drop i entries.new.items ≡ drop (index + 1) entries.old.items) }
-    ensures err { OnErr result (entries.new.items ≡ entries.old.items) }
+// Takes out the nodes from one to another, and answers the node after them.
+fn take_out(list: &mut TokenList, from: Node, to: Node) -> Option<Node>
+    requires from_live { IsTrue (is_live from list.old.nodes) }
+    requires to_live { IsTrue (is_live to list.old.nodes) }
+    requires order { StandsFrom from to list.old.nodes }
+    ensures nodes { list.new.nodes ≡ spliced from to [] list.old.nodes }
+    ensures next { result ≡ first_of (nodes_after to list.old.nodes) }
 {
-    if index == 0 {
-        return Ok(1);
+    let next = list.next(to);
+    list.erase_run(from, to);
+    next
+}
+
+// Keeps a node, and joins the strings that come after a string to it. Answers the node after. A
+// refused call changes nothing.
+fn keep(list: &mut TokenList, node: Node) -> Result<Option<Node>, NoMemory>
+    requires live { IsTrue (is_live node list.old.nodes) }
+    requires paired { IsPaired list.old.nodes }
+    requires stays { IsStaying list.old.nodes node }
+    ensures swept { IfOk result (λ next. Sweeps list.old.nodes list.new.nodes node next) }
+    ensures err { OnErr result (list.new ≡ list.old) }
+    ensures string { OnErr result (IsStringAt list.old.nodes node) }
+{
+    list.are_numbered();
+    if !is_string(list.token(node)) {
+        return Ok(list.next(node));
     }
-    if !are_strings(&entries[index - 1], &entries[index]) {
-        return Ok(index + 1);
+    let Some(second) = string_after(list, node) else {
+        return Ok(list.next(node));
+    };
+    let run = joined(list, node, second)?;
+    Ok(put_run(list, node, run))
+}
+
+// Gives a string the text of those after it, which it takes out. Answers the node after.
+fn put_run(list: &mut TokenList, node: Node, run: Run) -> Option<Node>
+    requires live { IsTrue (is_live node list.old.nodes) }
+    requires paired { IsPaired list.old.nodes }
+    requires run { IsRun list.old.nodes node run.text run.parts run.last }
+    ensures { (s : IsStaying list.old.nodes node) → is_string s.node.token.kind ≡ true
+        → Sweeps list.old.nodes list.new.nodes node result }
+{
+    list.are_numbered();
+    let second = list.next(node).unwrap();
+    list.set_text(node, run.text, run.parts);
+    take_out(list, second, run.last)
+}
+
+// Simplifies from a node on, and answers the node that is next. A refused call changes nothing.
+fn step(list: &mut TokenList, node: Node) -> Result<Option<Node>, NoMemory>
+    requires live { IsTrue (is_live node list.old.nodes) }
+    requires paired { IsPaired list.old.nodes }
+    ensures swept { IfOk result (λ next. Sweeps list.old.nodes list.new.nodes node next) }
+    ensures err { OnErr result (list.new ≡ list.old) }
+    ensures string { OnErr result (IsStringAt list.old.nodes node) }
+{
+    list.are_numbered();
+    match word_end(list, node) {
+        Some(end) => Ok(take_out(list, node, end)),
+        None => keep(list, node),
     }
-    join(entries, index)?;
-    Ok(index)
 }
 
-#[tactic(auto, unfolding(crate::specs::Shapes::Sweeping::are_strings))]
-fn are_strings(first: &Entry, second: &Entry) -> bool
-    ensures { result ≡ are_strings first.now second.now }
-{
-    first.token().kind == Kind::String && second.token().kind == Kind::String
-}
-
-// Joins a string to the one before. The memory is taken before anything changes.
-#[tactic(auto, unfolding(crate::specs::Shapes::Sweeping::joined_node, crate::specs::Simplified::joined))]
-fn join(entries: &mut Vec<Entry>, index: usize) -> Result<(), NoMemory>
-    requires positive { 0 < index }
-    requires within { index < length entries.old.items }
-    ensures ok { OnOk result
-        ((a b : TokenNode) → a ≡ slice_index_or entries.old.items (index - 1) a
-        → b ≡ slice_index_or entries.old.items index b
-        → entries.new.items
-        ≡ remove (slice_set entries.old.items (index - 1) (joined_node a b)) index) }
-    ensures err { OnErr result (entries.new.items ≡ entries.old.items) }
-{
-    let alloc = *entries.allocator();
-    let first = entries[index - 1].token();
-    let second = entries[index].token();
-    let text = joined_text(alloc, &first.text, &second.text)?;
-    let parts = joined_parts(alloc, first, second)?;
-    set_text(entries, index - 1, text, parts);
-    entries.remove(index);
-    Ok(())
-}
-
-fn set_text(entries: &mut Vec<Entry>, index: usize, text: Text, parts: List<usize>)
-    requires { index < length entries.old.items }
-    ensures { (a : TokenNode) → a ≡ slice_index_or entries.old.items index a
-        → entries.new.items ≡ slice_set entries.old.items index (with_text a text parts) }
-{
-    let entry = &mut entries[index];
-    entry.set_text(text, parts);
+impl TokenList {
+    /// Takes out the words that say nothing of the values of a program, such as `inline`, and joins
+    /// adjacent strings. Where memory runs out, only some of it is done, and what is left to do
+    /// leads to the same list.
+    pub fn simplify(&mut self) -> Result<(), NoMemory>
+        requires paired { IsPaired self.old.nodes }
+        ensures paired { IsPaired self.new.nodes }
+        ensures ok { OnOk result (IsSimplified self.old.nodes self.new.nodes) }
+        ensures err { OnErr result (IsPartlySimplified self.old.nodes self.new.nodes) }
+    {
+        self.are_numbered();
+        let mut at = self.first();
+        while let Some(node) = at {
+            at = step(self, node)?;
+        }
+        Ok(())
+    }
 }

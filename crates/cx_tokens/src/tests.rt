@@ -1,10 +1,10 @@
 //! Tests of lists of tokens.
 ghost use Rattle.std.specs.Prelude.{IfSome, IsTrue};
-ghost use Rattle.cx_tokens.specs.Nodes.{nodes_from, is_live};
+ghost use Rattle.cx_tokens.specs.Nodes.{StandsFrom, is_live};
 
 use crate::laws::from_itself;
 use crate::{Kind, Node, Token, TokenList, is_digraph, plain_text};
-use cx_base::{Duplicate, List, NoMemory, Place, Text};
+use cx_base::{Duplicate, NoMemory, Place, SharedList, Text};
 use std::alloc::{AllocError, Global};
 use std::str;
 
@@ -30,9 +30,9 @@ fn token_of(alloc: Global, word: &[u8], column: u32) -> Result<Token, NoMemory> 
             line: 1,
             column,
         },
-        hide: List::new(alloc),
+        hide: SharedList::new(),
         space: false,
-        parts: List::new(alloc),
+        parts: SharedList::new(),
         digraph: false,
     })
 }
@@ -54,7 +54,7 @@ fn list_of(alloc: Global, text: &str) -> Result<TokenList, NoMemory> {
 
 // The node of an index.
 fn node_at(list: &TokenList, index: usize) -> Option<Node>
-    ensures { IfSome result (λ n. IsTrue (is_live n list.now)) }
+    ensures { IfSome result (λ n. IsTrue (is_live n list.now.nodes)) }
 {
     let mut node = list.first()?;
     for _ in 0..index {
@@ -65,9 +65,9 @@ fn node_at(list: &TokenList, index: usize) -> Option<Node>
 
 // A node, and the one so many nodes after it.
 fn run_at(list: &TokenList, index: usize, more: usize) -> Option<(Node, Node)>
-    ensures from_live { IfSome result (λ r. IsTrue (is_live r.0 list.now)) }
-    ensures to_live { IfSome result (λ r. IsTrue (is_live r.1 list.now)) }
-    ensures order { IfSome result (λ r. IsTrue (is_live r.1 (nodes_from r.0 list.now))) }
+    ensures from_live { IfSome result (λ r. IsTrue (is_live r.0 list.now.nodes)) }
+    ensures to_live { IfSome result (λ r. IsTrue (is_live r.1 list.now.nodes)) }
+    ensures order { IfSome result (λ r. StandsFrom r.0 r.1 list.now.nodes) }
 {
     let from = node_at(list, index)?;
     from_itself();
@@ -79,7 +79,7 @@ fn run_at(list: &TokenList, index: usize, more: usize) -> Option<(Node, Node)>
 }
 
 fn shown_token(alloc: Global, list: &TokenList, node: Node) -> Result<String, AllocError>
-    requires { IsTrue (is_live node list.now) }
+    requires { IsTrue (is_live node list.now.nodes) }
 {
     let text = str::from_utf8(list.token(node).text.as_slice()).unwrap_or("?");
     match list.partner(node) {
@@ -149,6 +149,7 @@ fn runs_are_replaced(rt: HostRuntime) {
         ("a b c", 1, 1, "x", "a x "),
         ("a b c", 1, 0, "", "a c "),
         ("a b c", 0, 2, "", ""),
+        ("a b c", 2, 0, "x y z", "a b x y z "),
         ("( [ ] )", 0, 1, "( )", "( ) ] ) "),
         ("( [ ] )", 1, 1, "x y z", "(4 x y z )1 "),
     ] {
@@ -215,13 +216,28 @@ fn lists_are_simplified(rt: HostRuntime) {
 
 #[test]
 fn joined_strings_keep_their_parts(rt: HostRuntime) {
-    let mut list = list_of(rt.alloc(), "\"\\x4\" \"1\"").expect(&rt, "memory");
-    list.pair_brackets().expect(&rt, "nested");
-    list.simplify().expect(&rt, "memory");
-    let node = list.first().expect(&rt, "node");
-    let token = list.token(node);
-    assert_eq!(rt; token.text.as_slice(), b"\"\\x41\"".as_slice());
-    assert_eq!(rt; token.parts.as_slice(), [3, 1].as_slice());
+    for (text, expected, parts) in [
+        ("\"\\x4\" \"1\"", b"\"\\x41\"".as_slice(), [3, 1].as_slice()),
+        (
+            "\"a\" \"bc\" \"\" \"def\" x",
+            b"\"abcdef\"".as_slice(),
+            [1, 2, 0, 3].as_slice(),
+        ),
+        (
+            "\"a\" inline \"b\" __declspec ( y ) \"c\"",
+            b"\"abc\"".as_slice(),
+            [1, 1, 1].as_slice(),
+        ),
+        ("\"a\" x \"b\"", b"\"a\"".as_slice(), [].as_slice()),
+    ] {
+        let mut list = list_of(rt.alloc(), text).expect(&rt, "memory");
+        list.pair_brackets().expect(&rt, "nested");
+        list.simplify().expect(&rt, "memory");
+        let node = list.first().expect(&rt, "node");
+        let token = list.token(node);
+        assert_eq!(rt; token.text.as_slice(), expected);
+        assert_eq!(rt; token.parts.as_slice(), parts);
+    }
 }
 
 #[test]
@@ -251,4 +267,99 @@ fn digraphs_keep_their_spelling(rt: HostRuntime) {
         let token = token.copy().expect(&rt, "memory");
         assert_eq!(rt; token.spelling(), spelled);
     }
+}
+
+// Whether a number is that of no node.
+fn is_free(list: &TokenList, node: Node) -> bool {
+    for index in 0..MANY {
+        let Some(other) = node_at(list, index) else {
+            return true;
+        };
+        if other.number() == node.number() {
+            return false;
+        }
+    }
+    true
+}
+
+#[test]
+fn room_is_made_and_kept(rt: HostRuntime) {
+    let mut list = list_of(rt.alloc(), "a b c").expect(&rt, "memory");
+    list.reserve(2).expect(&rt, "memory");
+    assert!(rt; list.spare() >= 2);
+    let node = node_at(&list, 1).expect(&rt, "node");
+    assert_eq!(rt; list.erase(node).text.as_slice(), b"b".as_slice());
+    assert!(rt; list.spare() >= 3);
+    assert!(rt; is_free(&list, node));
+    let first = list.first().expect(&rt, "node");
+    let token = token_of(rt.alloc(), b"x", 4).expect(&rt, "memory");
+    let new = list.insert_after(Some(first), token).expect(&rt, "memory");
+    assert!(rt; list.spare() >= 2);
+    assert!(rt; list.previous(new) == Some(first));
+    let shown = shown(rt.alloc(), &list).expect(&rt, "memory");
+    assert_eq!(rt; shown.as_str(), "a x c ");
+    assert!(rt; list.reserve(4294967295).is_err());
+}
+
+// Takes a token out of a list and of its model.
+fn erase_at(list: &mut TokenList, model: &mut Vec<u32>, index: usize) {
+    let Some(node) = node_at(list, index) else {
+        return;
+    };
+    if index < model.len() {
+        list.erase(node);
+        model.remove(index);
+    }
+}
+
+// Puts a token with a column into a list and into its model.
+fn insert_at(
+    list: &mut TokenList,
+    model: &mut Vec<u32>,
+    index: usize,
+    token: Token,
+) -> Result<(), NoMemory> {
+    let at = match index.checked_sub(1) {
+        None => None,
+        Some(before) => node_at(list, before),
+    };
+    model.insert(index.min(model.len()), token.place.column)?;
+    list.insert_after(at, token)?;
+    Ok(())
+}
+
+// Whether the columns of a list are those of its model, and its links lead back.
+fn is_model(list: &TokenList, model: &[u32]) -> bool {
+    let mut at = list.first();
+    let mut last = None;
+    for column in model {
+        let Some(node) = at else {
+            return false;
+        };
+        if list.token(node).place.column != *column || list.previous(node) != last {
+            return false;
+        }
+        last = at;
+        at = list.next(node);
+    }
+    at.is_none()
+}
+
+#[test]
+fn mixed_edits_are_those_of_a_plain_list(rt: HostRuntime) {
+    let mut list = TokenList::new(rt.alloc());
+    let mut model = Vec::new(rt.alloc());
+    let mut picked: u32 = 1;
+    for column in 0..1000 {
+        picked = picked.wrapping_mul(1664525).wrapping_add(1013904223);
+        let index = (picked >> 16) as usize % (model.len() + 1);
+        if picked >> 30 == 0 {
+            erase_at(&mut list, &mut model, index);
+        } else {
+            let token = token_of(rt.alloc(), b"a", column).expect(&rt, "memory");
+            insert_at(&mut list, &mut model, index, token).expect(&rt, "memory");
+        }
+        assert!(rt; is_model(&list, model.as_slice()));
+    }
+    assert!(rt; model.len() > 100);
 }

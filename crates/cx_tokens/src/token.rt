@@ -1,7 +1,7 @@
 //! Preprocessing tokens.
 ghost use Rattle.std.specs.Prelude.{◌≡◌, IfOk};
 
-use cx_base::{Duplicate, List, NoMemory, Place, Text};
+use cx_base::{Duplicate, NoMemory, Place, SharedList, Text};
 
 /// The kind of a preprocessing token (C11 6.4).
 #[derive(Clone, Copy, Debug, PartialEq, Eq)]
@@ -33,12 +33,12 @@ pub struct Token {
     /// The line and column of its first byte.
     pub place: Place,
     /// The macros that are not to replace it any more.
-    pub hide: List<Text>,
+    pub hide: SharedList<Text>,
     /// Whether a separator, a comment or a newline stands directly before it.
     pub space: bool,
     /// Of a string that was joined from several: how many bytes each of them has between its
     /// quotes, in order, since an escape ends in its own string. Empty for every other token.
-    pub parts: List<usize>,
+    pub parts: SharedList<usize>,
     /// Whether it was spelt as a digraph; `text` is then the plain form (C11 6.4.6).
     pub digraph: bool,
 }
@@ -48,8 +48,8 @@ impl Token {
         ensures { IfOk result (λ t. t ≡ self.now) }
     {
         let text = self.text.copy()?;
-        let hide = self.hide.copy()?;
-        let parts = self.parts.copy()?;
+        let hide = self.hide.share()?;
+        let parts = self.parts.share()?;
         Ok(Token {
             kind: self.kind,
             text,

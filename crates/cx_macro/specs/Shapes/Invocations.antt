@@ -1,6 +1,6 @@
 -- What a token invokes, test by test: `invocation_of` computes `IsInvocation` (laws `invocation_if`
 -- and `invocation_only`).
-use Rattle.std.specs.Prelude.{ℕ, List, [], ◌∷◌, Bool, true, false, if◌then◌else◌, not, ◌&&◌, Option, Some, None}
+use Rattle.std.specs.Prelude.{ℕ, List, [], ◌∷◌, Bool, if◌then◌else◌, not, ◌&&◌, Option, Some, None}
 use Rattle.cx_tokens.specs.declared.token.Token.{Token}
 use Rattle.cx_tokens.specs.Simplified.{is_name}
 use Rattle.cx_macro.specs.Arguments.{Bracketed, is_open}

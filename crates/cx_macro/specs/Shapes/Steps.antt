@@ -1,6 +1,6 @@
 -- Macro replacement step by step: a list that is being expanded, and the calls in it whose
 -- arguments are expanded first.
-use Rattle.std.specs.Prelude.{◌≡◌, ℕ, ◌+◌, ◌-◌, ◌*◌, ◌<◌, ◌≤◌, List, [], ◌∷◌, ◌++◌, if◌then◌else◌, None, Some, ◌≢◌, slice_index_or, drop, take, length}
+use Rattle.std.specs.Prelude.{◌≡◌, ℕ, ◌+◌, ◌-◌, ◌*◌, ◌<◌, ◌≤◌, List, [], ◌∷◌, ◌++◌, if◌then◌else◌, true, None, Some, ◌≢◌, slice_index_or, drop, take, length}
 use Rattle.cx_tokens.specs.declared.token.Token.{Token}
 use Rattle.cx_tokens.specs.Nodes.{tokens}
 use Rattle.cx_macro.specs.declared.fault.MacroFault.{MacroFault}
@@ -11,7 +11,9 @@ use Rattle.cx_macro.specs.declared.expansion.Step.{Step}
 use Rattle.cx_macro.specs.declared.expansion.Step.TheVariants.{Ends, Goes}
 use Rattle.cx_macro.specs.declared.expansion.Meaning.{Meaning}
 use Rattle.cx_macro.specs.declared.expansion.Meaning.TheVariants as meaning
-use Rattle.cx_macro.specs.Arguments.{Arguments, Bracketed}
+use Rattle.cx_macro.specs.declared.expansion.Invoked.{Invoked}
+use Rattle.cx_macro.specs.declared.expansion.Invoked.TheVariants as invoked
+use Rattle.cx_macro.specs.Arguments.{Arguments, Bracketed, begins_call}
 use Rattle.cx_macro.specs.Shapes.Counting.{arguments_of}
 use Rattle.cx_macro.specs.Expansion.{ArgumentsOutcome, Expands, ExpandsEach, Outcome, preceded_by_argument, preceded_by_token, of_function, definition_at, expanded, line_of, refused, wanted_from}
 use Rattle.cx_macro.specs.Shapes.Invocations.{invocation_of}
@@ -217,7 +219,7 @@ StepIs table bound old (Goes new) =
 StepIs table bound old (Ends done laid) =
     (laid ≤ bound)
     × ((start : ℕ) (whole : List Token) → IsExpandingState table bound start whole old
-    → Expands table bound start whole (expanded (tokens done) laid) × HasNoPartners done)
+    → Expands table bound start whole (expanded (tokens done.nodes) laid) × HasNoPartners done.nodes)
 
 abbrev pub FailsAtStart : Table → ℕ → State → MacroFault → Type 0
 FailsAtStart table bound old fault =
@@ -228,3 +230,12 @@ abbrev pub MeaningIs : Table → Token → Meaning → Type 0
 MeaningIs table t meaning.Itself = definition_at table t ≡ None
 MeaningIs table t meaning.Line = definition_at table t ≡ Some (line_of t)
 MeaningIs table t (meaning.Macro stored) = definition_at table t ≡ Some (definition_of stored.now)
+
+-- what replaces a token, by what stands after it
+abbrev pub Invokes : Table → Token → List Token → Invoked → Type 0
+Invokes table t rest invoked.Line = definition_at table t ≡ Some (line_of t)
+Invokes table t rest (invoked.Object stored) =
+    (definition_at table t ≡ Some (definition_of stored.now)) × (stored.now.parameters ≡ None)
+Invokes table t rest (invoked.Function stored parameters) =
+    (definition_at table t ≡ Some (definition_of stored.now))
+    × (stored.now.parameters ≡ Some parameters.now) × (begins_call rest ≡ true)

@@ -10,8 +10,6 @@ use Rattle.cx_macro.specs.declared.substitutes.Substitute as code_substitute
 use Rattle.cx_macro.specs.declared.substitutes.Substitute.TheVariants as code
 use Rattle.cx_macro.specs.Arguments.{Arguments}
 use Rattle.cx_macro.specs.Macros.{Definition}
-use Rattle.cx_macro.specs.declared.stored.Stored.{Stored}
-use Rattle.cx_macro.specs.Stored.{definition_of}
 use Rattle.cx_macro.specs.Replacement.{Glues, Substitute, substitutes_of, operand, paste_operator, positions_of, role_of}
 use Rattle.cx_macro.specs.Shapes.Roles.{takes_given}
 
@@ -37,7 +35,6 @@ abbrev pub kept_of : Definition → ℕ → List (List Token) → List (List Tok
 kept_of d i [] = []
 kept_of d i (argument ∷ rest) = (if is_raw d i then argument else []) ∷ kept_of d (i + 1) rest
 
--- what a stored macro's replacement list gives with arguments, or None where a `##` makes no token
-abbrev pub GluesTo : Stored → code_arguments.Arguments → Option (List Token) → Type 0
-GluesTo stored a result =
-    Glues [] (substitutes_of (definition_of stored) (arguments_of_code a) a.expanded.now) result
+-- what a macro's replacement list gives with arguments, or None where a `##` makes no token
+abbrev pub GluesTo : Definition → code_arguments.Arguments → Option (List Token) → Type 0
+GluesTo d a result = Glues [] (substitutes_of d (arguments_of_code a) a.expanded.now) result

@@ -1,25 +1,13 @@
-use Rattle.std.proofs.Common.{◌+◌, ◌++◌, [], ◌∷◌, refl, sym, ◌∙◌, ap, length-append}
-use Rattle.cx_macro.proofs.CallLaws.{cut_more, cut_none, cut_parts}
+use Rattle.std.proofs.Common.{◌-◌, refl, ap, ◌∙◌}
+use Rattle.std.proofs.lemmas.Option.{MatchOption-at_none}
+use Rattle.cx_macro.proofs.FrameLaws as laws
 use Rattle.cx_macro.proofs.arguments.cut_at_comma.Goals as goal
 
-pub returns-then-parts : goal.returns-then-parts
-returns-then-parts c =
-    let i = c.loop-token.invariant in (
-      i.0,
-      cut_parts i.0 c.loop-token.text c.next.new.self c.loop-token.depth c.in-Some.token.now _ i.2 c.in-Some.ensures
-          (let t = c.if-parts.true in let e = c.parts.ensures in cc),
-      i.1,
-    )
-
-pub loop-token-preserved : goal.loop-token-preserved
-loop-token-preserved c =
-    let i = c.loop-token.invariant in (
-      i.0 ++ c.in-Some.token.now ∷ [],
-      c.in_ok-front.ensures ∙ (ap (λ n. n + 1) i.1 ∙ sym (length-append i.0 (c.in-Some.token.now ∷ []))),
-      cut_more i.0 (i.0 ++ c.in-Some.token.now ∷ []) c.loop-token.text c.next.new.self c.loop-token.depth c.in_ok-depth.depth c.in-Some.token.now _
-          i.2 c.in-Some.ensures (let t = c.if-parts.false in let e = c.parts.ensures in cc) c.in_ok-depth.ensures refl,
-    )
+pub returns-in_default : goal.returns-in_default
+returns-in_default c = λ ts end i.
+    laws.inner_last c.args.text ts end _ i (MatchOption-at_none _ _ c.in_default.is c.first_comma.ensures) (c.len.ensures ts end i)
 
 pub returns : goal.returns
-returns c =
-    let i = c.loop-token.invariant in (i.0, cut_none i.0 c.loop-token.text c.loop-token.depth _ i.2 c.in_default.ensures.0, i.1)
+returns c = λ ts end i.
+    laws.inner_next c.args.text (record { left = c.in-Some.comma; behind = c.args.text.behind; commas = c.in-Some.commas }) ts end c.saturating_sub-front.result
+    c.in-Some.comma i c.in-Some.ensures refl refl (c.saturating_sub-front.ensures ∙ ap (λ n. n - 1) c.saturating_sub.ensures)

@@ -6,7 +6,7 @@ use Rattle.cx_macro.proofs.steps.run.Given as goal
 abbrev pub invariant-loop-done : goal.invariant-loop-done
 invariant-loop-done l = record {
   within : l.state.laid ≤ l.bound;
-  known : IsExpandingState l.macros l.bound l.fn.laid (tokens l.fn.list) l.state;
+  known : IsExpandingState l.macros l.bound l.fn.laid (tokens l.fn.list.nodes) l.state;
 }
 
 abbrev pub decreases-loop-done : goal.decreases-loop-done

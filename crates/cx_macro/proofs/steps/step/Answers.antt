@@ -1,18 +1,13 @@
-use Rattle.std.proofs.Common.{refl}
-use Rattle.cx_macro.proofs.ProgressLaws.{step_ends, step_resumes, step_takes}
+use Rattle.std.proofs.Common.{◌∙◌, sym}
+use Rattle.std.proofs.lemmas.Option.{MatchOption-at_none, MatchOption-at_some}
+use Rattle.cx_macro.proofs.ProgressLaws.{first_token}
 use Rattle.cx_macro.proofs.steps.step.Goals as goal
 
-pub returns-in-Some-clause-new : goal.returns-in-Some-clause-new
-returns-in-Some-clause-new c =
-    step_takes c.args.macros.now c.args.bound c.in-Some.token c.args.state _ c.in_ok-take.field-0 refl c.in-Some.ensures.1 refl c.in-Some.ensures.0 c.in-Some.ensures.2 refl
-    c.in_ok-take.ensures.new
+pub returns-in_ok-stay-in-None-clause-new : goal.returns-in_ok-stay-in-None-clause-new
+returns-in_ok-stay-in-None-clause-new c =
+    let f = first_token c.args.state.buffer.ahead (sym c.is_empty.ensures ∙ c.if-is_empty.false) in
+    c.in_ok-stay-in-None.ensures.new c.args.macros.now c.args.bound f.0 f.1 f.2 (MatchOption-at_none _ _ c.in-None.is (c.invoked_ahead.ensures f.0 f.1 f.2)) c.requires
 
-pub returns-in-None-clause-new : goal.returns-in-None-clause-new
-returns-in-None-clause-new c =
-    step_ends c.args.macros.now c.args.bound c.args.state c.pop.new.self c.into_list.result c.requires c.in_default.ensures.1 c.in_default.ensures.0 c.in-None.ensures.0
-    c.into_list.ensures.tokens c.into_list.ensures.partners
-
-pub returns-clause-new : goal.returns-clause-new
-returns-clause-new c =
-    step_resumes c.args.macros.now c.args.bound c.args.state _ c.pop.new.self c.in-Some-pop.call c.pop-2.new.self c.in_default.ensures.1 c.in_default.ensures.0
-    c.in-Some-pop.ensures (c.in_ok-resume-in-Some-pop.ensures.new c.args.macros.now)
+pub returns-in_ok-take-in-Some-clause-new : goal.returns-in_ok-take-in-Some-clause-new
+returns-in_ok-take-in-Some-clause-new c =
+    c.in_ok-take-in-Some.ensures.new c.args.macros.now (λ t rest w. MatchOption-at_some _ _ c.in-Some.invoked c.in-Some.is (c.invoked_ahead.ensures t rest w))

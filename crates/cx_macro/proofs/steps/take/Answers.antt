@@ -1,19 +1,17 @@
-use Rattle.std.proofs.Common.{◌∙◌, ap, sym, Some}
+use Rattle.std.proofs.Common.{refl}
+use Rattle.std.proofs.lemmas.Option.{MatchOption-at_some}
 use Rattle.std.proofs.lemmas.Result.{IfErr-weaker, IfOk-weaker}
-use Rattle.cx_macro.specs.Macros.{Definition}
-use Rattle.cx_macro.proofs.InvocationLaws.{use_none, use_object}
+use Rattle.cx_macro.proofs.ProgressLaws.{step_fails, step_takes}
 use Rattle.cx_macro.proofs.steps.take.Goals as goal
 
-pub returns-in-Itself-clause-new : goal.returns-in-Itself-clause-new
-returns-in-Itself-clause-new c = IfOk-weaker c.stay.result _ _ (λ new h.
-    h c.args.macros.now c.args.bound (use_none c.args.macros.now c.args.token c.args.state.buffer.ahead c.in-Itself.ensures) c.requires) c.stay.ensures.new
+pub returns-clause-new : goal.returns-clause-new
+returns-clause-new c =
+    let p = MatchOption-at_some _ _ c.unwrap-token.result c.unwrap-token.ensures c.in_ok-pop.ensures in
+    IfOk-weaker c.take_token.result _ _ (λ new h. λ table i.
+    step_takes table c.args.bound c.unwrap-token.result c.args.state _ new refl p.1 refl p.0 p.2 refl (h table (i _ _ p.0))) c.take_token.ensures.new
 
-pub returns-in_ok-line-in-Line-clause-new : goal.returns-in_ok-line-in-Line-clause-new
-returns-in_ok-line-in-Line-clause-new c = IfOk-weaker c.replace.result _ _ (λ new h.
-    h c.args.macros.now (use_object c.args.macros.now c.args.token c.args.state.buffer.ahead _ (c.in-Line.ensures ∙ ap Some (sym c.in_ok-line-in-Line.ensures))
-    (ap (λ (d : Definition). d.parameters) c.in_ok-line-in-Line.ensures))) c.replace.ensures.new
-
-pub returns-in_ok-line-in-Line-clause-fault : goal.returns-in_ok-line-in-Line-clause-fault
-returns-in_ok-line-in-Line-clause-fault c = IfErr-weaker c.replace.result _ _ (λ fault h.
-    h c.args.macros.now (use_object c.args.macros.now c.args.token c.args.state.buffer.ahead _ (c.in-Line.ensures ∙ ap Some (sym c.in_ok-line-in-Line.ensures))
-    (ap (λ (d : Definition). d.parameters) c.in_ok-line-in-Line.ensures))) c.replace.ensures.fault
+pub returns-clause-fault : goal.returns-clause-fault
+returns-clause-fault c =
+    let p = MatchOption-at_some _ _ c.unwrap-token.result c.unwrap-token.ensures c.in_ok-pop.ensures in
+    IfErr-weaker c.take_token.result _ _ (λ fault h. λ table i.
+    step_fails table c.args.bound c.unwrap-token.result c.args.state _ fault refl p.1 refl p.0 p.2 refl (h table (i _ _ p.0))) c.take_token.ensures.fault

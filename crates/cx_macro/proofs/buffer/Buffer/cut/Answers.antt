@@ -1,34 +1,37 @@
-use Rattle.std.proofs.Common.{◌≡◌, ◌∷◌, ◌++◌, None, Some, sym, ◌∙◌, ap, subst}
-use Rattle.cx_tokens.specs.declared.token.Token.{Token}
-use Rattle.cx_macro.specs.Shapes.Counting.{arguments_of, bracketed}
-use Rattle.cx_macro.specs.Shapes.Segments.{CutsText}
+use Rattle.std.proofs.Common.{◌≡◌, ◌∷◌, ◌++◌, Some, sym, ◌∙◌, ap, subst, arith, option_map}
+use Rattle.std.proofs.lemmas.Option.{MatchOption-at_some}
+use Rattle.cx_macro.specs.Shapes.Counting.{bracketed, cut_at_comma}
+use Rattle.cx_macro.specs.Shapes.Frames.{AreFrames, CommasCut, HaveFrames, IsInner}
+use Rattle.cx_macro.specs.Shapes.Segments.{Spread}
 use Rattle.cx_macro.proofs.SegmentLaws as laws
 use Rattle.cx_macro.proofs.buffer.Buffer.cut.Goals as goal
 
-pub returns-in_default-2 : goal.returns-in_default-2
-returns-in_default-2 c =
-    let b = rw c.in-Some.is at c.in_ok-length.ensures in
-    let found : bracketed 0 c.args.self.now.ahead ≡ Some b.0 = subst (λ x. bracketed 0 x ≡ Some b.0) c.walk.ensures b.1 in
-    let inner = laws.inner_again c.args.self.now.ahead b.0 c.in-Some.length c.walk-2.result c.within-inner.result found b.2 c.walk-2.ensures c.within-inner.ensures in
-    (b.0, found, subst (λ x. arguments_of c.args.count c.args.variadic x ≡ None) inner (rw c.in_default-2.is at c.in_ok-arguments.ensures))
-
 pub returns : goal.returns
 returns c =
-    let b = rw c.in-Some.is at c.in_ok-length.ensures in
-    let found : bracketed 0 c.args.self.now.ahead ≡ Some b.0 = subst (λ x. bracketed 0 x ≡ Some b.0) c.walk.ensures b.1 in
-    let inner = laws.inner_again c.args.self.now.ahead b.0 c.in-Some.length c.walk-2.result c.within-inner.result found b.2 c.walk-2.ensures c.within-inner.ensures in
-    let given = rw c.in-Some-2.is at c.in_ok-arguments.ensures in
+    let ahead = c.self.inside.level.ahead in
+    let frames = c.in_ok-frames.frames.now in
+    let known : AreFrames frames ahead =
+    subst (λ o. HaveFrames o ahead) (sym c.as_ref.ensures.value ∙ ap (option_map (λ r. r.now)) c.in_ok-frames.ensures.ok_part) c.self.invariant in
+    let f = MatchOption-at_some _ _ c.in-Some.closing c.in-Some.is (c.closing_ahead.ensures ahead known) in
+    let b = f.0 in
+    let end = b.closing ∷ f.1 in
+    let inner : IsInner (record { left = frames.len; behind = c.in-Some.closing.now.behind; commas = c.as_slice.result }) b.inner end = record {
+      left = f.5;
+      behind = let h = f.4 in omega (arith, h);
+      commas = subst (λ p. CommasCut p (cut_at_comma 0 b.inner).after end) (sym c.as_slice.ensures) f.6;
+    } in
+    let found : bracketed 0 c.args.self.now.ahead ≡ Some b = subst (λ (s : Spread). bracketed 0 s.ahead ≡ Some b) c.self.view_is f.2 in
+    let given = MatchOption-at_some _ _ c.in-Some-2.arguments c.in-Some-2.is (c.in_ok-arguments.ensures b.inner end inner) in
     let segments = c.in-Some-2.arguments.segments.items in
-    let cuts : CutsText segments b.0.inner given.0 None = subst (λ x. CutsText segments x given.0 None) inner given.2 in
-    let cut = c.in_ok-cut_off.ensures b.0 given.0 found b.2 cuts in
+    let cut = c.in_ok-cut_off.ensures b given.0 found (c.len-length.ensures b.inner end inner) given.2 in
     record {
-      brackets = b.0;
+      brackets = b;
       raw = given.0;
       found = found;
-      split = subst (λ x. arguments_of c.args.count c.args.variadic x ≡ Some (record { given = given.0; left_out = c.in-Some-2.arguments.left_out })) inner given.1;
+      split = given.1;
       counted = sym (c.len-arguments.ensures ∙ (c.in-Some-2.arguments.segments.ok.0
-          ∙ laws.cuts_length segments (b.0.inner ++ b.0.closing ∷ b.0.after) given.0 b.0.after (cuts b.0.closing b.0.after)));
-      hides = c.in_ok-hide.ensures ∙ ap (λ (t : Token). t.hide) b.3;
+          ∙ laws.cuts_length segments (b.inner ++ b.closing ∷ b.after) given.0 b.after (given.2 b.closing b.after)));
+      hides = c.in_ok-hide.ensures ∙ f.3;
       done = cut.0;
       cut = cut.1;
     }

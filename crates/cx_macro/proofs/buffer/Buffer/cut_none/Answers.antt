@@ -6,4 +6,5 @@ pub returns-then-inner-gt0 : goal.returns-then-inner-gt0
 returns-then-inner-gt0 c = λ b found counted hides. (b, found, laws.some_given b.inner (omega arith))
 
 pub returns : goal.returns
-returns c = λ b found counted hides. laws.cut_none c.args.self.now c.pop-closing.new.self c.pop-closing.result c.args.hide b c.pop-closing.ensures found (omega arith) hides
+returns c = λ b found counted hides.
+    laws.cut_none c.args.self.now c.pop.new.self c.in_ok-_closing._closing c.args.hide b c.in_ok-_closing.ensures found (omega arith) hides

@@ -11,6 +11,6 @@ pub returns : goal.returns
 unfolding with_body
 returns c = record {
   ok = defines _ _ _ _ _ _ c.in_ok-insert.ensures.ok
-      (ap (with_body c.args.made.parameters c.args.made.variadic) (c.in_ok-body.ensures ∙ c.over.ensures)) c.self.view_is;
+      (c.in_ok-stored.ensures ∙ ap (with_body c.args.made.parameters c.args.made.variadic) (c.in_ok-body.ensures ∙ c.over.ensures)) c.self.view_is;
   err = tt;
 }

@@ -7,7 +7,7 @@ use Rattle.cx_macro.proofs.walk.Walk.next.Goals.{in-Some+in_ok-checked_sub, in_d
 
 pub returns : goal.returns
 returns c =
-    let nodes = c.self.inside.list.now in
+    let nodes = c.self.inside.list.now.nodes in
     let next = c.next-self-inside.result in
     let t = c.token.result.now in
     let all : walked None c.self.inside.at nodes ≡ t ∷ walked None next nodes =
@@ -18,10 +18,10 @@ returns c =
           sym c.self.view_is
           ∙ (pass_one c.self.inside.left c.match-self.self-inside.left w.in-Some.left w.in_ok-checked_sub.field-0 (walked None c.self.inside.at nodes)
           (walked None next nodes) t all w.in-Some.is one_more (ap (λ (i : Inside). i.left) w.self-inside-is)
-          ∙ ap (λ (i : Inside). t ∷ walked c.match-self.self-inside.left next i.list.now) (sym w.self-inside-is))
+          ∙ ap (λ (i : Inside). t ∷ walked c.match-self.self-inside.left next i.list.now.nodes) (sym w.self-inside-is))
       | in_default w ↦
           sym c.self.view_is
           ∙ (pass_all c.self.inside.left c.match-self.self-inside.left (walked None c.self.inside.at nodes) (walked None next nodes) t all w.in_default.is
           (ap (λ (i : Inside). i.left) w.self-inside-is ∙ w.in_default.is)
-          ∙ ap (λ (i : Inside). t ∷ walked c.match-self.self-inside.left next i.list.now) (sym w.self-inside-is))
+          ∙ ap (λ (i : Inside). t ∷ walked c.match-self.self-inside.left next i.list.now.nodes) (sym w.self-inside-is))
     ]

@@ -1,30 +1,40 @@
-use Rattle.std.proofs.Common.{◌≡◌, Some, true, IfSome, IsTrue, take, drop, subst, sym, ap, ap₂, ◌∙◌, take-append-drop}
-use Rattle.cx_tokens.specs.Nodes.{nodes_after, first_of, nodes_from, is_live}
-use Rattle.cx_tokens.specs.Shapes.Edits.{place_after}
-use Rattle.cx_tokens.proofs.PlaceLaws.{drop_behind, first_live, live_within, order_next}
+use Rattle.std.proofs.Common.{◌≡◌, ◌∙◌, ap, subst, sym, IfSome, IsTrue, true}
+use Rattle.cx_tokens.specs.Nodes.{StandsFrom, first_of, is_live, nodes_after}
+use Rattle.cx_tokens.proofs.PlaceLaws.{order_next}
+use Rattle.cx_tokens.proofs.LinkSteps.{index_within, next_lives, read_there, view_nodes}
 use Rattle.cx_tokens.proofs.token_list.TokenList.next.Goals as goal
+
+pub index-requires : goal.index-requires
+index-requires c =
+    let i = c.self.inside in
+    let h = c.self.invariant.links in
+    let nodes : h.nodes ≡ c.args.self.now.nodes = sym (view_nodes i.slots.items i.first i.len i.free i.spare h) ∙ ap (λ v. v.nodes) c.self.view_is in
+    let live : is_live c.args.at h.nodes ≡ true = subst (λ t. is_live c.args.at t ≡ true) (sym nodes) c.requires.live in
+    index_within i.slots.items i.slots.len h.nodes c.args.at c.number.result live h.linked c.number.ensures i.slots.ok.0
 
 pub returns-clause-node : goal.returns-clause-node
 returns-clause-node c =
-    let xs = c.self.inside.entries.items in
-    let live : is_live c.args.at xs ≡ true = subst (λ t. is_live c.args.at t ≡ true) (sym c.self.view_is) c.requires.live in
-    let a = c.as_slice-entries.ensures.value in
-    c.node_at.ensures ∙ ap first_of (ap₂ drop (c.place_after.ensures.place ∙ ap (place_after (Some c.args.at)) a) a ∙ drop_behind c.args.at xs live ∙ ap (nodes_after c.args.at) c.self.view_is)
+    let i = c.self.inside in
+    let h = c.self.invariant.links in
+    let nodes : h.nodes ≡ c.args.self.now.nodes = sym (view_nodes i.slots.items i.first i.len i.free i.spare h) ∙ ap (λ v. v.nodes) c.self.view_is in
+    let live : is_live c.args.at h.nodes ≡ true = subst (λ t. is_live c.args.at t ≡ true) (sym nodes) c.requires.live in
+    let t = read_there i.slots.items h.nodes c.args.at c.number.result c.index.result.now live h.linked c.number.ensures c.index.ensures in
+    c.node_of.ensures ∙ sym t.next ∙ ap (λ t. first_of (nodes_after c.args.at t)) nodes
 
 pub returns-clause-live : goal.returns-clause-live
 returns-clause-live c =
-    let a = c.as_slice-entries.ensures.value in
-    let ys = c.as_slice-entries.result.now in
-    let i = c.place_after.result in
-    let l = live_within (take i ys) (drop i ys) c.node_at.result (subst (λ o. IfSome o (λ n. IsTrue (is_live n (drop i ys)))) (sym c.node_at.ensures) (first_live (drop i ys))) in
-    subst (λ t. IfSome c.node_at.result (λ n. IsTrue (is_live n t))) (take-append-drop i ys ∙ a ∙ c.self.view_is) l
+    let i = c.self.inside in
+    let h = c.self.invariant.links in
+    let nodes : h.nodes ≡ c.args.self.now.nodes = sym (view_nodes i.slots.items i.first i.len i.free i.spare h) ∙ ap (λ v. v.nodes) c.self.view_is in
+    let live : is_live c.args.at h.nodes ≡ true = subst (λ t. is_live c.args.at t ≡ true) (sym nodes) c.requires.live in
+    let t = read_there i.slots.items h.nodes c.args.at c.number.result c.index.result.now live h.linked c.number.ensures c.index.ensures in
+    subst (λ t. IfSome c.node_of.result (λ n. IsTrue (is_live n t))) nodes (next_lives c.args.at h.nodes c.node_of.result live (c.node_of.ensures ∙ sym t.next))
 
 pub returns-clause-order : goal.returns-clause-order
-returns-clause-order c = λ from h.
-    let xs = c.self.inside.entries.items in
-    let live : is_live c.args.at xs ≡ true = subst (λ t. is_live c.args.at t ≡ true) (sym c.self.view_is) c.requires.live in
-    let a = c.as_slice-entries.ensures.value in
-    let e : c.node_at.result ≡ first_of (nodes_after c.args.at xs) =
-    c.node_at.ensures ∙ ap first_of (ap₂ drop (c.place_after.ensures.place ∙ ap (place_after (Some c.args.at)) a) a ∙ drop_behind c.args.at xs live) in
-    let o = order_next c.args.at from xs c.node_at.result c.self.invariant.is_list.distinct (subst (λ t. is_live c.args.at (nodes_from from t) ≡ true) (sym c.self.view_is) h) e in
-    subst (λ t. IfSome c.node_at.result (λ n. IsTrue (is_live n (nodes_from from t)))) c.self.view_is o
+returns-clause-order c =
+    let i = c.self.inside in
+    let h = c.self.invariant.links in
+    let nodes : h.nodes ≡ c.args.self.now.nodes = sym (view_nodes i.slots.items i.first i.len i.free i.spare h) ∙ ap (λ v. v.nodes) c.self.view_is in
+    let live : is_live c.args.at h.nodes ≡ true = subst (λ t. is_live c.args.at t ≡ true) (sym nodes) c.requires.live in
+    let t = read_there i.slots.items h.nodes c.args.at c.number.result c.index.result.now live h.linked c.number.ensures c.index.ensures in
+    λ from s. subst (λ t. IfSome c.node_of.result (λ n. StandsFrom from n t)) nodes (order_next c.args.at from h.nodes c.node_of.result h.is_list.distinct (subst (λ t. StandsFrom from c.args.at t) (sym nodes) s) (c.node_of.ensures ∙ sym t.next))

@@ -1,20 +1,39 @@
-use Rattle.std.proofs.Common.{◌≡◌, Some, true, subst, sym, ap, ◌∙◌}
-use Rattle.cx_tokens.specs.Nodes.{is_live, partner_in, partner_of}
-use Rattle.cx_tokens.proofs.NodeLaws.{partner_live}
+use Rattle.std.proofs.Common.{◌≡◌, ◌∙◌, ap, subst, sym, IfSome, IsTrue, Some, true}
+use Rattle.cx_tokens.specs.Nodes.{is_live, partner_of}
+use Rattle.cx_tokens.proofs.LinkSteps.{index_within, partner_lives, read_there, view_nodes}
 use Rattle.cx_tokens.proofs.token_list.TokenList.partner.Goals as goal
+
+pub index-requires : goal.index-requires
+index-requires c =
+    let i = c.self.inside in
+    let h = c.self.invariant.links in
+    let nodes : h.nodes ≡ c.args.self.now.nodes = sym (view_nodes i.slots.items i.first i.len i.free i.spare h) ∙ ap (λ v. v.nodes) c.self.view_is in
+    let live : is_live c.args.at h.nodes ≡ true = subst (λ t. is_live c.args.at t ≡ true) (sym nodes) c.requires.live in
+    index_within i.slots.items i.slots.len h.nodes c.args.at c.number.result live h.linked c.number.ensures i.slots.ok.0
+
+pub returns-clause-node : goal.returns-clause-node
+returns-clause-node c =
+    let i = c.self.inside in
+    let h = c.self.invariant.links in
+    let nodes : h.nodes ≡ c.args.self.now.nodes = sym (view_nodes i.slots.items i.first i.len i.free i.spare h) ∙ ap (λ v. v.nodes) c.self.view_is in
+    let live : is_live c.args.at h.nodes ≡ true = subst (λ t. is_live c.args.at t ≡ true) (sym nodes) c.requires.live in
+    let t = read_there i.slots.items h.nodes c.args.at c.number.result c.index.result.now live h.linked c.number.ensures c.index.ensures in
+    c.node_of.ensures ∙ sym t.partner ∙ ap (partner_of c.args.at) nodes
 
 pub returns-clause-live : goal.returns-clause-live
 returns-clause-live c =
-    let xs = c.self.inside.entries.items in
-    let p : partner_of c.args.at xs ≡ Some c.of.result =
-    ap (partner_of c.args.at) (sym c.as_slice.ensures.value) ∙ ap partner_in c.entry_of.ensures ∙ sym c.partner.ensures ∙ c.in_ok-number.was ∙ ap Some (sym c.of.ensures) in
-    let q = c.self.invariant.is_list.mutual_partners c.args.at c.of.result p in
-    subst (λ t. is_live c.of.result t ≡ true) c.self.view_is (partner_live c.of.result c.args.at xs q)
+    let i = c.self.inside in
+    let h = c.self.invariant.links in
+    let nodes : h.nodes ≡ c.args.self.now.nodes = sym (view_nodes i.slots.items i.first i.len i.free i.spare h) ∙ ap (λ v. v.nodes) c.self.view_is in
+    let live : is_live c.args.at h.nodes ≡ true = subst (λ t. is_live c.args.at t ≡ true) (sym nodes) c.requires.live in
+    let t = read_there i.slots.items h.nodes c.args.at c.number.result c.index.result.now live h.linked c.number.ensures c.index.ensures in
+    subst (λ t. IfSome c.node_of.result (λ n. IsTrue (is_live n t))) nodes (partner_lives c.args.at h.nodes c.node_of.result h.is_list (c.node_of.ensures ∙ sym t.partner)).0
 
 pub returns-clause-mutual : goal.returns-clause-mutual
 returns-clause-mutual c =
-    let xs = c.self.inside.entries.items in
-    let p : partner_of c.args.at xs ≡ Some c.of.result =
-    ap (partner_of c.args.at) (sym c.as_slice.ensures.value) ∙ ap partner_in c.entry_of.ensures ∙ sym c.partner.ensures ∙ c.in_ok-number.was ∙ ap Some (sym c.of.ensures) in
-    let q = c.self.invariant.is_list.mutual_partners c.args.at c.of.result p in
-    subst (λ t. partner_of c.of.result t ≡ Some c.args.at) c.self.view_is q
+    let i = c.self.inside in
+    let h = c.self.invariant.links in
+    let nodes : h.nodes ≡ c.args.self.now.nodes = sym (view_nodes i.slots.items i.first i.len i.free i.spare h) ∙ ap (λ v. v.nodes) c.self.view_is in
+    let live : is_live c.args.at h.nodes ≡ true = subst (λ t. is_live c.args.at t ≡ true) (sym nodes) c.requires.live in
+    let t = read_there i.slots.items h.nodes c.args.at c.number.result c.index.result.now live h.linked c.number.ensures c.index.ensures in
+    subst (λ t. IfSome c.node_of.result (λ n. partner_of n t ≡ Some c.args.at)) nodes (partner_lives c.args.at h.nodes c.node_of.result h.is_list (c.node_of.ensures ∙ sym t.partner)).1

@@ -1,28 +1,40 @@
-use Rattle.std.proofs.Common.{◌≡◌, true, IfSome, IsTrue, length, take, drop, subst, sym, ap, ap₂, ◌∙◌, take-append-drop}
-use Rattle.cx_tokens.specs.Nodes.{StandsFrom, nodes_before, is_live, last_of}
-use Rattle.cx_tokens.proofs.PlaceLaws.{last_live, live_before, order_previous, take_before}
+use Rattle.std.proofs.Common.{◌≡◌, ◌∙◌, ap, subst, sym, IfSome, IsTrue, true}
+use Rattle.cx_tokens.specs.Nodes.{StandsFrom, is_live, last_of, nodes_before}
+use Rattle.cx_tokens.proofs.PlaceLaws.{order_previous}
+use Rattle.cx_tokens.proofs.LinkSteps.{index_within, last_lives, read_there, view_nodes}
 use Rattle.cx_tokens.proofs.token_list.TokenList.previous.Goals as goal
+
+pub index-requires : goal.index-requires
+index-requires c =
+    let i = c.self.inside in
+    let h = c.self.invariant.links in
+    let nodes : h.nodes ≡ c.args.self.now.nodes = sym (view_nodes i.slots.items i.first i.len i.free i.spare h) ∙ ap (λ v. v.nodes) c.self.view_is in
+    let live : is_live c.args.at h.nodes ≡ true = subst (λ t. is_live c.args.at t ≡ true) (sym nodes) c.requires.live in
+    index_within i.slots.items i.slots.len h.nodes c.args.at c.number.result live h.linked c.number.ensures i.slots.ok.0
 
 pub returns-clause-node : goal.returns-clause-node
 returns-clause-node c =
-    let xs = c.self.inside.entries.items in
-    let live : is_live c.args.at xs ≡ true = subst (λ t. is_live c.args.at t ≡ true) (sym c.self.view_is) c.requires.live in
-    let a = c.as_slice-entries.ensures.value in
-    c.node_before.ensures ∙ ap last_of (ap₂ take (c.place_of.ensures.place ∙ ap (λ t. length (nodes_before c.args.at t)) a) a ∙ take_before c.args.at xs live ∙ ap (nodes_before c.args.at) c.self.view_is)
+    let i = c.self.inside in
+    let h = c.self.invariant.links in
+    let nodes : h.nodes ≡ c.args.self.now.nodes = sym (view_nodes i.slots.items i.first i.len i.free i.spare h) ∙ ap (λ v. v.nodes) c.self.view_is in
+    let live : is_live c.args.at h.nodes ≡ true = subst (λ t. is_live c.args.at t ≡ true) (sym nodes) c.requires.live in
+    let t = read_there i.slots.items h.nodes c.args.at c.number.result c.index.result.now live h.linked c.number.ensures c.index.ensures in
+    c.node_of.ensures ∙ sym t.previous ∙ ap (λ t. last_of (nodes_before c.args.at t)) nodes
 
 pub returns-clause-live : goal.returns-clause-live
 returns-clause-live c =
-    let a = c.as_slice-entries.ensures.value in
-    let ys = c.as_slice-entries.result.now in
-    let i = c.place_of.result in
-    let l = live_before (take i ys) (drop i ys) c.node_before.result (subst (λ o. IfSome o (λ n. IsTrue (is_live n (take i ys)))) (sym c.node_before.ensures) (last_live (take i ys))) in
-    subst (λ t. IfSome c.node_before.result (λ n. IsTrue (is_live n t))) (take-append-drop i ys ∙ a ∙ c.self.view_is) l
+    let i = c.self.inside in
+    let h = c.self.invariant.links in
+    let nodes : h.nodes ≡ c.args.self.now.nodes = sym (view_nodes i.slots.items i.first i.len i.free i.spare h) ∙ ap (λ v. v.nodes) c.self.view_is in
+    let live : is_live c.args.at h.nodes ≡ true = subst (λ t. is_live c.args.at t ≡ true) (sym nodes) c.requires.live in
+    let t = read_there i.slots.items h.nodes c.args.at c.number.result c.index.result.now live h.linked c.number.ensures c.index.ensures in
+    subst (λ t. IfSome c.node_of.result (λ n. IsTrue (is_live n t))) nodes (last_lives c.args.at h.nodes c.node_of.result live (c.node_of.ensures ∙ sym t.previous))
 
 pub returns-clause-order : goal.returns-clause-order
 returns-clause-order c =
-    let xs = c.self.inside.entries.items in
-    let live : is_live c.args.at xs ≡ true = subst (λ t. is_live c.args.at t ≡ true) (sym c.self.view_is) c.requires.live in
-    let a = c.as_slice-entries.ensures.value in
-    let e : c.node_before.result ≡ last_of (nodes_before c.args.at xs) =
-    c.node_before.ensures ∙ ap last_of (ap₂ take (c.place_of.ensures.place ∙ ap (λ t. length (nodes_before c.args.at t)) a) a ∙ take_before c.args.at xs live) in
-    subst (λ t. IfSome c.node_before.result (λ n. StandsFrom n c.args.at t)) c.self.view_is (order_previous c.args.at xs c.node_before.result live e)
+    let i = c.self.inside in
+    let h = c.self.invariant.links in
+    let nodes : h.nodes ≡ c.args.self.now.nodes = sym (view_nodes i.slots.items i.first i.len i.free i.spare h) ∙ ap (λ v. v.nodes) c.self.view_is in
+    let live : is_live c.args.at h.nodes ≡ true = subst (λ t. is_live c.args.at t ≡ true) (sym nodes) c.requires.live in
+    let t = read_there i.slots.items h.nodes c.args.at c.number.result c.index.result.now live h.linked c.number.ensures c.index.ensures in
+    subst (λ t. IfSome c.node_of.result (λ n. StandsFrom n c.args.at t)) nodes (order_previous c.args.at h.nodes c.node_of.result live (c.node_of.ensures ∙ sym t.previous))

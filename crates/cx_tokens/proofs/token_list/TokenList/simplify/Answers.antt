@@ -1,56 +1,41 @@
-use Rattle.std.proofs.Common.{◌≡◌, [], Result, Ok, Err, OnErr, OnOk, sym, subst, vec_capacity}
-use Rattle.std.proofs.lemmas.Result.{on_err_weaker, on_ok_weaker}
-use Rattle.cx_tokens.specs.declared.simplify.State.TheVariants.{Plain}
+use Rattle.std.proofs.Common.{OnErr, ap, subst, sym}
+use Rattle.std.proofs.lemmas.Result.{err_from_is_err_and}
 use Rattle.cx_tokens.specs.Brackets.{IsPaired}
-use Rattle.cx_tokens.specs.Shapes.Edits.{IsValidList}
-use Rattle.cx_tokens.specs.Simplified.{IsPartlySimplified, IsSimplified}
-use Rattle.cx_tokens.specs.Shapes.Sweeping.{IsStopped, staying_nodes, all_joined_to_end}
-use Rattle.cx_tokens.proofs.UnadornedLaws.{stopped_partly, swept_simplified}
-use Rattle.cx_tokens.proofs.SweptPairs.{part_kept, part_paired, whole_kept, whole_paired}
+use Rattle.cx_tokens.specs.Simplified.{IsPartlySimplified}
+use Rattle.cx_tokens.specs.Shapes.Sweeping.{IsSwept}
+use Rattle.cx_tokens.proofs.SweepSteps.{sweeps_less, sweeps_on, swept_end, swept_paired, swept_start, swept_stop}
 use Rattle.cx_tokens.proofs.token_list.TokenList.simplify.Goals as goal
 
-either_way : {T E A B C : Type 0} (r : Result T E) → OnOk r A → OnErr r B → (A → C) → (B → C) → C
-either_way (Ok x) a b f g = f a
-either_way (Err e) a b f g = g b
+pub loop-at-init : goal.loop-at-init
+loop-at-init c = swept_start c.args.self.now.nodes c.first-at.result c.first-at.ensures.node
 
-pub invariant_of-self : goal.invariant_of-self
-invariant_of-self c =
-    let old = c.self.inside.entries.items in
-    let new = c.sweep.new.entries.items in
-    let p : IsPaired old = subst IsPaired (sym c.self.view_is) c.requires.paired in
-    let next = c.self.inside.next in
-    let room = vec_capacity c.self.inside.stack in
-    let stack = c.self.inside.stack.items in
-    either_way c.sweep.result c.sweep.ensures.ok c.sweep.ensures.err
-    (λ (e : new ≡ all_joined_to_end [] (staying_nodes Plain old)). subst (λ t. IsValidList t next room stack) (sym e) (whole_kept old next room stack c.self.invariant p))
-    (λ (s : IsStopped old new). part_kept old new next room stack s c.self.invariant p)
+pub step-requires-clause-paired : goal.step-requires-clause-paired
+step-requires-clause-paired c = swept_paired c.args.self.now.nodes c.loop-at.self.nodes c.loop-at.at c.requires.paired c.are_numbered.ensures.distinct c.loop-at.invariant
+
+pub returns-in_err-at-clause-paired : goal.returns-in_err-at-clause-paired
+returns-in_err-at-clause-paired c =
+    subst (λ v. IsPaired v.nodes) (sym c.in_err-at.ensures.err)
+    (swept_paired c.args.self.now.nodes c.loop-at.self.nodes c.loop-at.at c.requires.paired c.are_numbered.ensures.distinct c.loop-at.invariant)
+
+pub returns-in_err-at-clause-err : goal.returns-in_err-at-clause-err
+returns-in_err-at-clause-err c =
+    let all = c.args.self.now.nodes in
+    let p = err_from_is_err_and c.from_residual.result c.from_residual.ensures.1 in
+    let s = swept_stop all c.loop-at.self.nodes c.step.new.list.nodes c.in-Some.node (ap (λ v. v.nodes) c.in_err-at.ensures.err) c.requires.paired c.are_numbered.ensures.distinct c.in_err-at.ensures.string
+    (subst (IsSwept all c.loop-at.self.nodes) c.in-Some.is c.loop-at.invariant) in
+    subst (λ r. OnErr r (IsPartlySimplified all c.step.new.list.nodes)) (sym p.1) s
+
+pub loop-at-smaller : goal.loop-at-smaller
+loop-at-smaller c =
+    sweeps_less c.args.self.now.nodes c.loop-at.self.nodes c.step.new.list.nodes c.in-Some.node c.loop-at.at c.in_ok-at.at c.in-Some.is c.in_ok-at.ensures.swept c.requires.paired c.are_numbered.ensures.distinct c.loop-at.invariant
+
+pub loop-at-preserved : goal.loop-at-preserved
+loop-at-preserved c =
+    let all = c.args.self.now.nodes in
+    (sweeps_on all c.loop-at.self.nodes c.step.new.list.nodes c.in-Some.node c.in_ok-at.at c.in_ok-at.ensures.swept c.requires.paired c.are_numbered.ensures.distinct (subst (IsSwept all c.loop-at.self.nodes) c.in-Some.is c.loop-at.invariant)).swept
 
 pub returns-clause-paired : goal.returns-clause-paired
-returns-clause-paired c =
-    let old = c.self.inside.entries.items in
-    let new = c.sweep.new.entries.items in
-    let p : IsPaired old = subst IsPaired (sym c.self.view_is) c.requires.paired in
-    either_way c.sweep.result c.sweep.ensures.ok c.sweep.ensures.err
-    (λ (e : new ≡ all_joined_to_end [] (staying_nodes Plain old)). subst IsPaired (sym e) (whole_paired old p c.self.invariant.is_list.distinct))
-    (λ (s : IsStopped old new). part_paired old new s p c.self.invariant.is_list.distinct)
+returns-clause-paired c = swept_paired c.args.self.now.nodes c.loop-at.self.nodes c.loop-at.at c.requires.paired c.are_numbered.ensures.distinct c.loop-at.invariant
 
 pub returns-clause-ok : goal.returns-clause-ok
-returns-clause-ok c =
-    let old = c.self.inside.entries.items in
-    let new = c.sweep.new.entries.items in
-    let p : IsPaired old = subst IsPaired (sym c.self.view_is) c.requires.paired in
-    on_ok_weaker c.sweep.result
-    (λ (e : new ≡ all_joined_to_end [] (staying_nodes Plain old)). subst (λ t. IsSimplified t new) c.self.view_is (subst (IsSimplified old) (sym e) (swept_simplified old p c.self.invariant.is_list.distinct)))
-    c.sweep.ensures.ok
-
-pub returns-clause-err : goal.returns-clause-err
-returns-clause-err c =
-    let old = c.self.inside.entries.items in
-    let new = c.sweep.new.entries.items in
-    let p : IsPaired old = subst IsPaired (sym c.self.view_is) c.requires.paired in
-    let d = c.self.invariant.is_list.distinct in
-    let room = vec_capacity c.self.inside.stack in
-    on_err_weaker c.sweep.result
-    (λ (s : IsStopped old new). subst (λ t. IsPartlySimplified t new) c.self.view_is
-    (stopped_partly old new s p d (part_paired old new s p d) (part_kept old new c.self.inside.next room c.self.inside.stack.items s c.self.invariant p).is_list.distinct))
-    c.sweep.ensures.err
+returns-clause-ok c = swept_end c.args.self.now.nodes c.loop-at.self.nodes c.loop-at.at c.in_default.is c.requires.paired c.are_numbered.ensures.distinct c.loop-at.invariant
