@@ -1,0 +1,11 @@
+mod BitLaws
+mod DigitLaws
+mod PartLaws
+mod FrameLaws
+mod MachineLaws
+mod CompleteLaws
+mod SameLaws
+mod SoundLaws
+mod ValueLaws
+mod TreeLaws
+mod Examples

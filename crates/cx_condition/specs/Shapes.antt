@@ -1,0 +1,4 @@
+pub mod Machine
+pub mod NextPart
+pub mod Reading
+pub mod Signs
