@@ -4,6 +4,7 @@
 
 pub use answers::{Answer, Entry, Seen, SeenEntry, Stored};
 pub use bytes::{Bytes, Text};
+pub use define::Define;
 pub use disk_files::DiskFiles;
 pub use errors::{Lost, NoMemory};
 pub use file_calls::{FileCall, FileRequest};
@@ -24,6 +25,7 @@ pub use write_all::write_whole;
 mod answers;
 mod bytes;
 mod calls;
+mod define;
 mod disk_files;
 mod errors;
 mod file_calls;

@@ -3,9 +3,9 @@ mod DigitLaws
 mod PartLaws
 mod FrameLaws
 mod MachineLaws
-mod CompleteLaws
-mod SameLaws
-mod SoundLaws
+pub mod CompleteLaws
+pub mod SameLaws
+pub mod SoundLaws
 mod ValueLaws
 mod TreeLaws
 mod Examples

@@ -1,5 +1,5 @@
 //! Macros and their names (C11 6.10.3).
-ghost use Rattle.std.specs.Prelude.{◌≡◌, ◌≢◌, ◌+◌, ◌≤◌, IfErr, IfOk, OnOk, OnErr, length, option_map};
+ghost use Rattle.std.specs.Prelude.{◌≡◌, ◌≢◌, ◌+◌, ◌≤◌, IfErr, IfOk, OnOk, OnErr, is_some, length, option_map};
 ghost use Rattle.cx_tokens.specs.Nodes.{tokens};
 ghost use Rattle.cx_macro.specs.Answers.{Answers};
 ghost use Rattle.cx_macro.specs.Expansion.{ExpandsList, Outcome, expanded, most_laid, refused};
@@ -115,6 +115,13 @@ impl Macros {
         ensures { self.new ≡ without_entry name.now self.old }
     {
         let _ = self.macros.remove(name);
+    }
+
+    /// Whether a name is defined (C11 6.10.1, paragraph 1).
+    pub fn is_defined(&self, name: &[u8]) -> bool
+        ensures { result ≡ is_some (value_of self.now name.now) }
+    {
+        self.find(name).is_some()
     }
 
     /// The macro of a name.

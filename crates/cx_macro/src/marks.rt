@@ -1,20 +1,11 @@
 //! What a token is to macro replacement.
 ghost use Rattle.std.specs.Prelude.{◌≡◌};
-ghost use Rattle.cx_tokens.specs.Brackets as brackets;
 ghost use Rattle.cx_tokens.specs.Simplified as simplified;
 ghost use Rattle.cx_macro.specs.Arguments as arguments;
 ghost use Rattle.cx_macro.specs.Macros as macros;
 ghost use Rattle.cx_macro.specs.Replacement as replacement;
 
-use cx_tokens::{Kind, Token};
-
-/// A punctuator of this text.
-#[tactic(auto, unfolding(cx_tokens::specs::Brackets::is_punctuator))]
-fn is_punctuator(text: &[u8], token: &Token) -> bool
-    ensures { result ≡ brackets.is_punctuator text.now token.now }
-{
-    token.kind == Kind::Punct && text == token.text.as_slice()
-}
+use cx_tokens::{Kind, Token, is_punctuator};
 
 pub(crate) fn is_open(token: &Token) -> bool
     ensures { result ≡ arguments.is_open token.now }

@@ -1,10 +1,10 @@
 -- The names that the lines of a source include.
-use Rattle.std.proofs.Common.{◌≡◌, List, [], ◌∷◌, ◌++◌, refl, sym, ap, ◌∙◌, subst}
+use Rattle.std.proofs.Common.{◌≡◌, List, [], ◌∷◌, ◌++◌, refl, sym, ap, ◌∙◌}
 use Rattle.std.specs.List.{filter_map}
 use Rattle.cx_lex.specs.declared.piece.Piece.{Piece}
-use Rattle.cx_pre.specs.declared.include.IncludeName.{IncludeName}
+use Rattle.cx_directive.specs.declared.include.IncludeName.{IncludeName}
 use Rattle.cx_pre.specs.Includes.{include_name_of, includes_of}
-use Rattle.cx_pre.specs.Lines.{lines_of}
+use Rattle.cx_lines.specs.Lines.{lines_of}
 
 nothing_after : (names : List IncludeName) → names ++ [] ≡ names
 nothing_after [] = refl

@@ -1,3 +1,18 @@
-pub mod LineLaws
-pub mod IncludeLaws
+pub mod ChoiceLaws
+pub mod DecisionLaws
+pub mod EnterLaws
 mod Examples
+pub mod FrontLaws
+pub mod IncludeLaws
+pub mod KindLaws
+pub mod LengthLaws
+pub mod MarkLaws
+pub mod OneLaws
+mod SearchExamples
+pub mod SearchLaws
+pub mod SectionLaws
+pub mod SomeLaws
+pub mod StartLaws
+pub mod StepLaws
+pub mod UnitLaws
+pub mod ValueLaws

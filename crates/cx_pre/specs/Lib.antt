@@ -1,2 +1,8 @@
+pub mod Choosing
+pub mod Conditions
 pub mod Includes
-pub mod Lines
+pub mod Searches
+pub mod Shelves
+pub mod Shapes
+pub mod Stages
+pub mod Starts

@@ -1,12 +1,35 @@
-//! The preprocessor of C (ISO/IEC 9899:2011, 6.10), as far as it is built: the lines of a source,
-//! and the names that it includes.
+//! The preprocessor of C (ISO/IEC 9899:2011, 6.10).
 #![tactic(auto)]
 
-pub use include::{IncludeName, includes_of};
-pub use laws::{lines_are_the_pieces, no_line_begins_within_a_line};
+pub use chosen::Chosen;
+pub use cx_directive::IncludeName;
+pub use fault::PreFault;
+pub use include::includes_of;
+pub use laws::{
+    closed_guards_give_nothing, groups_after_the_chosen_change_nothing, marks_stay, once_is_enough,
+    once_is_marked, one_answer, one_choice, one_outcome, some_answer, some_outcome,
+    text_is_its_expansion, unchosen_groups_change_nothing,
+};
+pub use shelf::{Config, Shelf, Shelved};
+pub use unit::preprocess;
 
+mod chosen;
+mod context;
+mod fault;
+mod files;
 mod include;
-mod laws;
-mod lines;
 #[cfg(test)]
-mod tests;
+mod include_tests;
+mod laws;
+mod search;
+#[cfg(test)]
+mod search_tests;
+mod shelf;
+mod stage;
+#[cfg(test)]
+mod start_tests;
+mod starts;
+mod stop;
+mod unit;
+#[cfg(test)]
+mod unit_tests;

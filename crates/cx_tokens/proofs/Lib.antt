@@ -20,3 +20,4 @@ pub mod SweepSteps
 pub mod SweptPairs
 pub mod TextLaws
 pub mod UnadornedLaws
+pub mod WholeLaws

@@ -11,7 +11,7 @@ use cx_base::Place;
 // The opening brackets, each with the closing bracket that fits it (C11 6.4.6).
 const BRACKETS: [(&[u8], &[u8]); 3] = [(b"(", b")"), (b"[", b"]"), (b"{", b"}")];
 
-// Whether a token is a punctuator of this text.
+/// Whether a token is a punctuator of this text (C11 6.4.6; of a digraph the plain form).
 #[tactic(auto, unfolding(crate::specs::Brackets::is_punctuator))]
 pub fn is_punctuator(text: &[u8], token: &Token) -> bool
     ensures { result ≡ is_punctuator text.now token.now }

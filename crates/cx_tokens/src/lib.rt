@@ -1,6 +1,7 @@
 //! Preprocessing tokens of C (ISO/IEC 9899:2011, 6.4), and lists of them with edits.
 #![tactic(auto)]
 
+pub use bracket::is_punctuator;
 pub use digraph::{is_digraph, plain_text};
 pub use laws::{
     closes_after, from_itself, from_transitive, nested_are_not_unpaired, no_strings_adjoin,
@@ -21,3 +22,4 @@ mod slots;
 mod tests;
 mod token;
 mod token_list;
+mod whole;

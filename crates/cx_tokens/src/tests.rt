@@ -252,6 +252,16 @@ fn lists_are_copied(rt: HostRuntime) {
 }
 
 #[test]
+fn lists_are_made_of_their_tokens(rt: HostRuntime) {
+    let list = list_of(rt.alloc(), "a ( b , c )").expect(&rt, "memory");
+    let tokens = list.into_vec().expect(&rt, "memory");
+    assert_eq!(rt; tokens.len(), 6);
+    let again = TokenList::from_vec(rt.alloc(), tokens).expect(&rt, "memory");
+    let text = shown(rt.alloc(), &again).expect(&rt, "memory");
+    assert_eq!(rt; text.as_str(), "a ( b , c ) ");
+}
+
+#[test]
 fn digraphs_keep_their_spelling(rt: HostRuntime) {
     for (kind, spelled, plain, digraph) in [
         (Kind::Punct, b"<:".as_slice(), b"[".as_slice(), true),

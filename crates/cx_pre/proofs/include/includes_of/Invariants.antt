@@ -1,7 +1,7 @@
 use Rattle.std.proofs.Common.{◌≡◌, ◌++◌, length}
 use Rattle.std.specs.List.{filter_map}
 use Rattle.cx_pre.specs.Includes.{include_name_of}
-use Rattle.cx_pre.specs.Lines.{lines_of}
+use Rattle.cx_lines.specs.Lines.{lines_of}
 use Rattle.cx_pre.proofs.include.includes_of.Given as goal
 
 abbrev pub invariant-loop-line : goal.invariant-loop-line

@@ -1,0 +1,7 @@
+mod AnswerLaws
+mod BodyLaws
+mod CutLaws
+mod DefineLaws
+mod DistinctLaws
+mod Examples
+mod ParameterLaws

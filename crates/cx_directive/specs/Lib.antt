@@ -1,0 +1,4 @@
+pub mod Answers
+pub mod Defines
+pub mod Operands
+pub mod Shapes

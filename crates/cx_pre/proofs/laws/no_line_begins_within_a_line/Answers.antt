@@ -1,5 +1,0 @@
-use Rattle.cx_pre.proofs.LineLaws.{lines_are}
-use Rattle.cx_pre.proofs.laws.no_line_begins_within_a_line.Goals as goal
-
-pub returns : goal.returns
-returns c = lines_are

@@ -1,7 +1,0 @@
-use Rattle.std.proofs.Common.{◌∙◌, sym}
-use Rattle.cx_pre.proofs.LineLaws.{found_nowhere}
-use Rattle.cx_pre.proofs.lines.rest_of_line.Goals as goal
-
-pub returns-in-None-clause-length : goal.returns-in-None-clause-length
-returns-in-None-clause-length c =
-    found_nowhere (λ p. p.first_on_line) c.args.pieces.now (sym c.next_line.ensures ∙ c.in-None.is)

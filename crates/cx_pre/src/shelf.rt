@@ -1,0 +1,43 @@
+//! What a unit is chosen from.
+ghost use Rattle.std.specs.Prelude.{◌≡◌, IfOk};
+
+use cx_base::{Define, Duplicate, List, NoMemory, Path, Text};
+use cx_lex::Lexed;
+
+/// A file, by its path and its pieces.
+#[derive(Drop)]
+pub struct Shelved {
+    pub path: Path,
+    pub lexed: Lexed,
+}
+
+/// The folders of `-I`, in order, and the files that there are. Any other path is that of no file.
+#[derive(Drop)]
+pub struct Shelf {
+    pub folders: List<Path>,
+    pub files: List<Shelved>,
+}
+
+/// A configuration: macros that are defined, and names that are defined as 1.
+#[derive(Debug, Drop)]
+pub struct Config {
+    pub defines: List<Define>,
+    pub names: List<Text>,
+}
+
+impl Config {
+    /// An equal configuration.
+    pub fn copy(&self) -> Result<Config, NoMemory>
+        ensures { IfOk result (λ c. c ≡ self.now) }
+    {
+        let defines = self.defines.copy()?;
+        let names = self.names.copy()?;
+        Ok(Config { defines, names })
+    }
+}
+
+impl Duplicate for Config {
+    fn duplicate(&self) -> Result<Config, NoMemory> {
+        self.copy()
+    }
+}
