@@ -1,4 +1,5 @@
 pub mod Choosing
+pub mod Closures
 pub mod Conditions
 pub mod Includes
 pub mod Searches

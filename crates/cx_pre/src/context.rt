@@ -17,9 +17,9 @@ pub(crate) struct Context<'a> {
     pub paths: &'a Paths,
 }
 
-/// The pieces of the file with a number.
+/// The pieces of the file with a number; none where the shelf has no such file.
 #[tactic(auto, unfolding(crate::specs::Shelves::pieces_of))]
-pub(crate) fn pieces_of<'a>(shelf: &'a Shelf, file: usize) -> &'a [Piece]
+pub fn pieces_of<'a>(shelf: &'a Shelf, file: usize) -> &'a [Piece]
     ensures { result.now ≡ pieces_of shelf.now file }
 {
     match shelf.files.as_slice().get(file) {

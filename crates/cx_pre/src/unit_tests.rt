@@ -349,7 +349,12 @@ const STANDARD: [(&str, &str); 5] = [
 ];
 
 /// The pieces of a file.
-fn shelved(alloc: Global, path: &str, text: &str, number: u32) -> Result<Shelved, NoMemory> {
+pub(crate) fn shelved(
+    alloc: Global,
+    path: &str,
+    text: &str,
+    number: u32,
+) -> Result<Shelved, NoMemory> {
     if text.len() >= 4_294_967_295 {
         return Err(NoMemory);
     }
@@ -361,7 +366,7 @@ fn shelved(alloc: Global, path: &str, text: &str, number: u32) -> Result<Shelved
 }
 
 /// Files as a shelf with the folders `i` and `j`.
-fn shelf_of(alloc: Global, files: &[(&str, &str)]) -> Result<Shelf, NoMemory> {
+pub(crate) fn shelf_of(alloc: Global, files: &[(&str, &str)]) -> Result<Shelf, NoMemory> {
     let mut shelf = Shelf {
         folders: List::new(alloc),
         files: List::new(alloc),
@@ -523,7 +528,7 @@ fn includes_are_joined(rt: HostRuntime) {
 }
 
 /// A unit, and so many headers of which each includes the next, but for the last.
-fn chain_of(alloc: Global, count: u32) -> Result<Shelf, NoMemory> {
+pub(crate) fn chain_of(alloc: Global, count: u32) -> Result<Shelf, NoMemory> {
     let mut shelf = shelf_of(alloc, &[("a.c", "#include \"1.h\"\n")])?;
     for number in 1..count {
         let next = number.saturating_add(1);
