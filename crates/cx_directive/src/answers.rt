@@ -12,15 +12,15 @@ use cx_macro::Macros;
 use cx_tokens::{Kind, Token, is_punctuator};
 use std::alloc::Global;
 
-/// Whether a token is `defined`.
-fn is_question(token: &Token) -> bool
+/// Whether a token is `defined` (C11 6.10.1).
+pub fn is_question(token: &Token) -> bool
     ensures { result ≡ is_question token.now }
 {
     is_named(b"defined", token)
 }
 
-/// Whether three tokens are a name in brackets.
-fn is_bracketed_name(opening: &Token, name: &Token, closing: &Token) -> bool
+/// Whether three tokens are a name in round brackets.
+pub fn is_bracketed_name(opening: &Token, name: &Token, closing: &Token) -> bool
     ensures { result ≡ is_bracketed_name opening.now name.now closing.now }
 {
     is_punctuator(b"(", opening) && is_name(name) && is_punctuator(b")", closing)

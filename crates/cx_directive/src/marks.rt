@@ -5,7 +5,7 @@ ghost use Rattle.cx_tokens.specs.Simplified.{is_name};
 use cx_tokens::{Kind, Token};
 
 /// Whether a token is a name.
-pub(crate) fn is_name(token: &Token) -> bool
+pub fn is_name(token: &Token) -> bool
     ensures { result ≡ is_name token.now.kind }
 {
     matches!(token.kind, Kind::Name)
