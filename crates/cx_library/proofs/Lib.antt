@@ -1,0 +1,9 @@
+mod Examples
+mod JoinLaws
+mod KnownLaws
+mod LaterLaws
+mod LibraryLaws
+mod ListLaws
+mod MergeLaws
+mod NameLaws
+mod ValidLaws

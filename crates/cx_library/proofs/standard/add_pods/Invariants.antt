@@ -1,0 +1,6 @@
+use Rattle.std.proofs.Common.{◌≡◌, drop, fold}
+use Rattle.cx_library.specs.Shapes.BuiltIn.{with_type}
+use Rattle.cx_library.proofs.standard.add_pods.Given as goal
+
+abbrev pub invariant-loop-name : goal.invariant-loop-name
+invariant-loop-name l = fold (λ library row. with_type library row.0.now row.1 row.2) l.draft (drop l.name-index l.rows) ≡ fold (λ library row. with_type library row.0.now row.1 row.2) l.fn.draft l.rows
