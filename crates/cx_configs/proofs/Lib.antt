@@ -1,0 +1,14 @@
+mod SetLaws
+mod SettledLaws
+mod ListLaws
+mod OrderLaws
+mod HoldLaws
+mod FoundLaws
+mod StepLaws
+mod GroupLaws
+mod QuestionLaws
+mod QuestionExamples
+mod NumberLaws
+mod AskingLaws
+mod ConfigLaws
+mod NameListLaws

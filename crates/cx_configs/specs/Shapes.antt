@@ -1,0 +1,5 @@
+pub mod Sets
+pub mod Lists
+pub mod Found
+pub mod Groups
+pub mod Asks
