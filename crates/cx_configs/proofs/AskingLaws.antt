@@ -3,8 +3,8 @@ use Rattle.std.proofs.Common.{◌≡◌, ℕ, List, [], ◌∷◌, ◌++◌, ◌
 use Rattle.std.specs.List.{flat_map}
 use Rattle.std.proofs.lemmas.List.{drop_all}
 use Rattle.std.proofs.lemmas.List.Concat.{flat_map-cons}
-use Rattle.cx_pre.specs.declared.shelf.Shelf.{Shelf}
-use Rattle.cx_pre.specs.Shelves.{pieces_of}
+use Rattle.cx_shelf.specs.declared.shelf.Shelf.{Shelf}
+use Rattle.cx_shelf.specs.Shelves.{pieces_of}
 use Rattle.cx_configs.specs.Configurations.{lines_in}
 use Rattle.cx_configs.proofs.SettledLaws.{drop_next}
 use Rattle.std.specs.Prelude.{fold, if◌then◌else◌}

@@ -6,9 +6,9 @@ use Rattle.cx_table.specs.NameTable.{Entries}
 use Rattle.cx_base.specs.declared.define.Define.{Define}
 use Rattle.cx_lines.specs.Nesting.{Line}
 use Rattle.cx_options.specs.declared.answer.Options.{Options}
-use Rattle.cx_pre.specs.declared.shelf.Config.{Config}
-use Rattle.cx_pre.specs.declared.shelf.Shelf.{Shelf}
-use Rattle.cx_pre.specs.Closures.{closure_of}
+use Rattle.cx_pre.specs.declared.config.Config.{Config}
+use Rattle.cx_shelf.specs.declared.shelf.Shelf.{Shelf}
+use Rattle.cx_shelf.specs.Closures.{closure_of}
 use Rattle.cx_configs.specs.Configurations.{bound_of, configurations, defines_of, first_ones, lines_in, name_lists, names_of_unit, open_names, settled_names, sorted, up_to}
 use Rattle.cx_configs.specs.Questions.{Name, asked_lists}
 use Rattle.cx_configs.specs.Shapes.Lists.{lists_of, with_lists}

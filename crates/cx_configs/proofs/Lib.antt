@@ -7,7 +7,7 @@ mod FoundLaws
 mod StepLaws
 mod GroupLaws
 mod QuestionLaws
-mod QuestionExamples
+mod Examples
 mod NumberLaws
 mod AskingLaws
 mod ConfigLaws

@@ -14,8 +14,8 @@ use Rattle.cx_lex.specs.declared.piece.Piece.{Piece}
 use Rattle.cx_lines.specs.Lines.{lines_of}
 use Rattle.cx_lines.specs.Nesting.{Line}
 use Rattle.cx_options.specs.declared.answer.Options.{Options}
-use Rattle.cx_pre.specs.declared.shelf.Shelf.{Shelf}
-use Rattle.cx_pre.specs.Shelves.{pieces_of}
+use Rattle.cx_shelf.specs.declared.shelf.Shelf.{Shelf}
+use Rattle.cx_shelf.specs.Shelves.{pieces_of}
 use Rattle.cx_configs.specs.Configurations.{defined_name, lines_in, names_defined, predefined, settled_names}
 use Rattle.cx_configs.specs.Questions.{Name}
 use Rattle.cx_configs.specs.Shapes.Sets.{is_settled, with_all_settled, with_names, with_settled, with_name}

@@ -13,10 +13,10 @@ use Rattle.cx_lines.specs.Lines.{lines_of}
 use Rattle.cx_lines.specs.Nesting.{Line}
 use Rattle.cx_directive.specs.Operands.{name_of, operands}
 use Rattle.cx_options.specs.declared.answer.Options.{Options}
-use Rattle.cx_pre.specs.declared.shelf.Config.{Config}
-use Rattle.cx_pre.specs.declared.shelf.Shelf.{Shelf}
-use Rattle.cx_pre.specs.Closures.{closure_of}
-use Rattle.cx_pre.specs.Shelves.{pieces_of}
+use Rattle.cx_pre.specs.declared.config.Config.{Config}
+use Rattle.cx_shelf.specs.declared.shelf.Shelf.{Shelf}
+use Rattle.cx_shelf.specs.Closures.{closure_of}
+use Rattle.cx_shelf.specs.Shelves.{pieces_of}
 use Rattle.cx_configs.specs.Questions.{Name, asked_lists}
 
 -- the macros that stand before every unit (C11 6.10.8.1)

@@ -1,7 +1,7 @@
 //! The configurations of a unit.
 ghost use Rattle.std.specs.Prelude.{◌≡◌, ◌-◌, ◌∷◌, ◌++◌, [], IfOk, OnOk, filter, map, not};
 ghost use Rattle.std.specs.Option.{option_map};
-ghost use Rattle.cx_pre.specs.declared.shelf.Config.{Config as config};
+ghost use Rattle.cx_pre.specs.declared.config.Config.{Config as config};
 ghost use Rattle.cx_library.specs.Library.{macros_of};
 ghost use Rattle.cx_configs.specs.Configurations.{bound_of, configurations, defines_of, is_among};
 ghost use Rattle.cx_configs.specs.Configurations.{usual_bound};
@@ -13,7 +13,8 @@ use crate::settled::Settled;
 use cx_base::{Define, List, NoMemory, Text};
 use cx_library::Library;
 use cx_options::Options;
-use cx_pre::{Config, Shelf, closure};
+use cx_pre::Config;
+use cx_shelf::{IndexedShelf, closure};
 use cx_table::NameKey;
 use std::alloc::Global;
 use std::collections::BTreeSet;
@@ -68,8 +69,8 @@ fn texts_of(alloc: Global, names: &BTreeSet<&[u8]>) -> Result<List<Text>, NoMemo
     Ok(texts)
 }
 
-/// The macros that each configuration defines: those of the library, and those of words that no word
-/// undefines.
+/// The macros that each configuration defines: those of the library, and those of words that no
+/// word undefines.
 #[tactic(auto, unfolding(crate::specs::Configurations::defines_of))]
 fn defines_of(
     alloc: Global,
@@ -140,23 +141,25 @@ fn configs_of(
 
 /// The configurations of a unit, the file with that number: macros and names that may be defined
 /// outside of its sources. Each has the macros of the library and then those of `-D` that no `-U`
-/// names, and a list of names that are defined as 1. The first list is empty. The others are those for
-/// which the conditional lines of the unit's files ask, in order, each once: up to 12 in all, or as
-/// many as `--max-configs=` says, or all with `--force`; with a macro of `-D` and neither of these two
-/// there is the empty list alone. Names are hashed under this key, which the sources give.
+/// names, and a list of names that are defined as 1. The first list is empty. The others are those
+/// for which the conditional lines of the unit's files ask, in order, each once: up to 12 in all, or
+/// as many as `--max-configs=` says, or all with `--force`; with a macro of `-D` and neither of
+/// these two there is the empty list alone. Names are hashed under this key, which the sources give.
 pub fn configurations(
     alloc: Global,
     key: NameKey,
-    shelf: &Shelf,
+    shelf: &IndexedShelf,
     unit: u32,
     options: &Options,
     library: &Library,
 ) -> Result<List<Config>, NoMemory>
-    ensures { IfOk result (λ cs. cs ≡ configurations shelf.now unit options.now (macros_of library.now)) }
+    ensures { IfOk result (λ cs. cs
+        ≡ configurations shelf.now unit options.now (macros_of library.now)) }
 {
     let library = library.defines().as_slice();
     let files = closure(alloc, key, shelf, unit)?;
     let files = files.as_slice();
+    let shelf = shelf.shelf();
     let settled = Settled::of(alloc, key, shelf, files, library, options)?;
     let mut lists = NameLists::new(alloc, key);
     add_files(

@@ -6,7 +6,7 @@ use cx_base::{List, NoMemory, Text};
 use cx_lex::{Piece, lex};
 use cx_lines::{first_line, kind_of};
 use cx_options::options;
-use cx_pre::Shelf;
+use cx_shelf::Shelf;
 use cx_table::NameKey;
 use std::alloc::Global;
 use std::str;

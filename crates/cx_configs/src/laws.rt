@@ -1,5 +1,6 @@
 //! Laws of configurations.
-ghost use Rattle.std.specs.Prelude.{◌≡◌, ◌≤◌, ◌+◌, ◌++◌, ℕ, List as list, All, Option as option, Some, bytes_eq, false, length};
+ghost use Rattle.std.specs.Prelude.{◌≡◌, ◌≤◌, ◌+◌, ◌++◌, ℕ, List as list, All};
+ghost use Rattle.std.specs.Prelude.{Option as option, Some, bytes_eq, false, length};
 ghost use Rattle.std.specs.List.{IsDistinct};
 ghost use Rattle.std.specs.List.Sorted.{IsStrictlySortedBy};
 ghost use Rattle.std.specs.Ordering.{nat_cmp};
@@ -27,14 +28,14 @@ pub fn settled_names_are_in_no_list()
         → All (All (λ n. is_among settled n ≡ false)) (name_lists bound settled files) }
 {}
 
-/// There are as many configurations as are looked at, at most, and the empty one in any case.
+/// There are at most as many configurations as are looked at, which are one or more.
 pub fn as_many_as_are_looked_at()
     ensures { (most : ℕ) (settled : list name) (files : list (list line))
         → length (name_lists (Some (most + 1)) settled files) ≤ most + 1 }
 {}
 
-/// What stands in a whole section asks for the same names whatever stands behind it, and what stands
-/// behind it asks for none of them.
+/// What stands in a whole section asks for the same names whatever stands behind it, and what
+/// stands behind it asks for none of them.
 pub fn whole_sections_ask_alone()
     ensures { (groups : list group) (lines rest : list line) → AreWhole lines
         → asked_lists groups (lines ++ rest) ≡ asked_lists groups lines ++ asked_lists groups rest }

@@ -11,7 +11,7 @@ use crate::settled::Settled;
 use cx_base::NoMemory;
 use cx_lex::Piece;
 use cx_lines::first_line;
-use cx_pre::{Shelf, pieces_of};
+use cx_shelf::{Shelf, pieces_of};
 use std::alloc::Global;
 
 /// Adds the lists for which the lines of a file ask, up to so many in all.

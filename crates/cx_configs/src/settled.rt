@@ -12,7 +12,7 @@ use cx_directive::{name_of, operands};
 use cx_lex::Piece;
 use cx_lines::{LineKind, first_line, kind_of};
 use cx_options::Options;
-use cx_pre::{Shelf, pieces_of};
+use cx_shelf::{Shelf, pieces_of};
 use cx_table::{NameKey, NameTable};
 use std::alloc::Global;
 use std::marker::Model;
@@ -44,8 +44,8 @@ fn defined_name(line: &[Piece]) -> Option<&[u8]>
 
 impl Settled {
     /// The names that are settled for a unit of these files: those of the macros that stand before
-    /// every unit (C11 6.10.8.1), that any line of a file defines, that the library or a word defines,
-    /// and that a word undefines.
+    /// every unit (C11 6.10.8.1), that any line of a file defines, that the library or a word
+    /// defines, and that a word undefines.
     #[tactic(auto, using(crate::proofs::SettledLaws::settled_in_turn))]
     pub(crate) fn of(
         alloc: Global,

@@ -4,7 +4,8 @@ use cx_base::{List, NoMemory, Path};
 use cx_lex::lex;
 use cx_library::built_in;
 use cx_options::{Options, are_in_bounds, options};
-use cx_pre::{Config, Shelf, Shelved};
+use cx_pre::Config;
+use cx_shelf::{IndexedShelf, Shelved};
 use cx_table::NameKey;
 use std::alloc::{AllocError, Global};
 
@@ -269,8 +270,13 @@ fn options_of(alloc: Global, row: &str) -> Result<Option<Options>, NoMemory> {
 }
 
 // A shelf of these files, with the folders of `-I`.
-fn shelf_of(alloc: Global, sources: &[Source], options: &Options) -> Result<Shelf, NoMemory> {
-    let mut files = List::new(alloc);
+fn shelf_of(
+    alloc: Global,
+    sources: &[Source],
+    options: &Options,
+) -> Result<IndexedShelf, NoMemory> {
+    let folders = options.folders.copy()?;
+    let mut shelf = IndexedShelf::new(alloc, NameKey::of(b"shelf")).with_folders(folders);
     let mut number = 0;
     for (path, text) in sources {
         // (the lexer takes a text whose places fit)
@@ -281,11 +287,10 @@ fn shelf_of(alloc: Global, sources: &[Source], options: &Options) -> Result<Shel
         let Ok(lexed) = lex(alloc, text.as_bytes(), number) else {
             return Err(NoMemory);
         };
-        files.push(Shelved { path, lexed })?;
+        shelf = shelf.with(Shelved { path, lexed })?;
         number = number.saturating_add(1);
     }
-    let folders = options.folders.copy()?;
-    Ok(Shelf { folders, files })
+    Ok(shelf)
 }
 
 // The lists of configurations, each with `;` between its names, with bars between them.
@@ -345,7 +350,8 @@ fn files_that_are_included_ask_too(rt: HostRuntime) {
     }
 }
 
-/// The macros that a configuration defines besides those of the library, each with a space behind it.
+/// The macros that a configuration defines besides those of the library, each with a space behind
+/// it.
 fn own_defines(alloc: Global, config: &Config) -> Result<String, AllocError> {
     let mut text = String::new(alloc);
     for define in config.defines.as_slice().iter().skip(10) {

@@ -11,3 +11,4 @@ pub mod ReaderLaws
 pub mod SizeLaws
 pub mod SameLaws
 pub mod NodeLaws
+pub mod Digits

@@ -133,7 +133,7 @@ pub text_brackets : (names : Names) (a : Expr) → text_of names (tree_of (Brack
 unfolding text_of
 text_brackets names a = rw tree_brackets refl
 
--- the text of each variant behind another text, piece by piece
+-- the text of each variant behind another text, token by token
 pub push_negation : (names : Names) (e : Expr) (at : Place) (a : Expr) (old mid new : List ℕ) (r : Result ⊤ NoMemory) → e ≡ Negation at a
     → mid ≡ old ++ codes "-" → OnOk r (new ≡ mid ++ text_of names (tree_of a)) → OnOk r (new ≡ old ++ text_of names (tree_of e))
 push_negation names e at a old mid new r s m h =

@@ -3,7 +3,7 @@ use Rattle.std.proofs.Common.{◌≡◌, ℕ, ◌==◌, Bool, true, false, not, 
 use Rattle.std.proofs.lemmas.Bool.Decides.{nat_tests}
 use Rattle.std.specs.List.{list_all}
 use Rattle.cx_lex.specs.Characters.{is_digit}
-use Rattle.cx_lex.specs.FirstPieces.{number_of, greatest, IsIntConstant}
+use Rattle.cx_first.specs.Numbers.{number_of, greatest, IsIntConstant}
 use Rattle.cx_first.specs.declared.terminals.Terminal.TheVariants as terminal_is
 use Rattle.cx_first.specs.Terminals.{number, is_int_constant}
 

@@ -8,3 +8,5 @@ pub mod Names
 pub mod Grammar
 pub mod Descent
 pub mod Nodes
+pub mod Numbers
+pub mod Shapes

@@ -1,12 +1,12 @@
--- What a piece is to the grammar of a first text (C11 6.4).
+-- What a token is to the grammar of a first text (C11 6.4).
 use Rattle.std.specs.Prelude.{ℕ, Bool, false, not, ◌&&◌, ◌==◌, nat_le, nat_lt, length, if◌then◌else◌, List, [], ◌∷◌, bytes_eq, codes}
 use Rattle.std.specs.Borrow.{Bor}
 use Rattle.std.specs.List.{list_all, list_any}
 use Rattle.cx_tokens.specs.declared.token.Kind.{Kind}
 use Rattle.cx_tokens.specs.declared.token.Kind.TheVariants as kind
-use Rattle.cx_lex.specs.declared.piece.Piece.{Piece}
+use Rattle.cx_tokens.specs.declared.token.Token.{Token}
 use Rattle.cx_lex.specs.Characters.{is_digit}
-use Rattle.cx_lex.specs.FirstPieces.{number_of, greatest}
+use Rattle.cx_first.specs.Numbers.{number_of, greatest}
 use Rattle.cx_first.specs.declared.terminals.Terminal.{Terminal}
 use Rattle.cx_first.specs.declared.terminals.Terminal.TheVariants as terminal_is
 
@@ -79,5 +79,5 @@ terminal_of kind.Unclosed text = terminal_is.Foreign
 terminal_of kind.Header text = terminal_is.Foreign
 terminal_of kind.Other text = terminal_is.Foreign
 
-unfoldable pub terminal : Piece → Terminal
-terminal piece = terminal_of piece.token.kind piece.token.text
+unfoldable pub terminal : Token → Terminal
+terminal token = terminal_of token.kind token.text

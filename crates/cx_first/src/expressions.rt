@@ -1,7 +1,7 @@
-//! Expressions from pieces, by recursive descent. An expression is at most as deep as it has
-//! pieces, and these are counted before the descent.
+//! Expressions from tokens, by recursive descent. An expression is at most as deep as it has
+//! tokens, and these are counted before the descent.
 ghost use Rattle.std.specs.Prelude.{◌≡◌, ◌≤◌, ◌<◌, ℕ, List as Items, [], ◌∷◌, length, IfOk, IfSome, IfNone, IsSomeAnd, None, Some, MatchOption};
-ghost use Rattle.cx_lex.specs.declared.piece.Piece.{Piece};
+ghost use Rattle.cx_tokens.specs.declared.token.Token.{Token};
 ghost use Rattle.cx_first.specs.Tree as tree;
 ghost use Rattle.cx_first.specs.Grammar.{Reads, Chains, operator_of, level_of};
 ghost use Rattle.cx_first.specs.Terminals.{terminal};
@@ -11,7 +11,7 @@ use crate::names::Names;
 use crate::terminals::{Terminal, after_terminal, first, terminal_of};
 use crate::tree::{Expr, Operator};
 use cx_base::NoMemory;
-use cx_lex::Piece;
+use cx_tokens::Token;
 use sqlite_items::Boxed;
 use std::alloc::Global;
 
@@ -40,15 +40,15 @@ fn level_of(operator: Operator) -> u8
     }
 }
 
-/// The operator of a level at the front of pieces, its piece, and those behind it.
-fn operator_at<'a>(level: u8, pieces: &'a [Piece]) -> Option<(Operator, &'a Piece, &'a [Piece])>
-    ensures none { IfNone result (NoOperator level pieces.now) }
-    ensures some { IfSome result (λ x. OperatorAt level pieces.now x.0 x.1.now x.2.now) }
+/// The operator of a level at the front of tokens, its token, and those behind it.
+fn operator_at<'a>(level: u8, tokens: &'a [Token]) -> Option<(Operator, &'a Token, &'a [Token])>
+    ensures none { IfNone result (NoOperator level tokens.now) }
+    ensures some { IfSome result (λ x. OperatorAt level tokens.now x.0 x.1.now x.2.now) }
 {
-    let (piece, rest) = first(pieces)?;
-    let operator = operator_of(terminal_of(piece))?;
+    let (token, rest) = first(tokens)?;
+    let operator = operator_of(terminal_of(token))?;
     if level_of(operator) == level {
-        Some((operator, piece, rest))
+        Some((operator, token, rest))
     } else {
         None
     }
@@ -56,15 +56,15 @@ fn operator_at<'a>(level: u8, pieces: &'a [Piece]) -> Option<(Operator, &'a Piec
 
 /// A name's variable.
 #[tactic(auto, using(crate::proofs::TreeLaws::trees, crate::proofs::DescentLaws::reads_variable))]
-fn variable<'a>(names: &Names, piece: &'a Piece, rest: &'a [Piece]) -> Option<(Expr, &'a [Piece])>
+fn variable<'a>(names: &Names, token: &'a Token, rest: &'a [Token]) -> Option<(Expr, &'a [Token])>
     requires few { length names.now ≤ 4294967296 }
-    requires name { terminal piece.now ≡ Terminal.Name }
-    ensures found { IfSome result (λ x. Reads names.now 0 (piece.now ∷ rest.now) (tree.tree_of x.0) x.1.now) }
-    ensures only { (t : tree.Tree) (behind : Items Piece) → Reads names.now 0 (piece.now ∷ rest.now) t behind → IsSomeAnd result (λ x. (tree.tree_of x.0 ≡ t) × (x.1.now ≡ behind)) }
+    requires name { terminal token.now ≡ Terminal.Name }
+    ensures found { IfSome result (λ x. Reads names.now 0 (token.now ∷ rest.now) (tree.tree_of x.0) x.1.now) }
+    ensures only { (t : tree.Tree) (behind : Items Token) → Reads names.now 0 (token.now ∷ rest.now) t behind → IsSomeAnd result (λ x. (tree.tree_of x.0 ≡ t) × (x.1.now ≡ behind)) }
     ensures shorter { IfSome result (λ x. length x.1.now ≤ length rest.now) }
 {
-    let variable = names.find(piece.token.text.as_slice())?;
-    let at = piece.token.place;
+    let variable = names.find(token.text.as_slice())?;
+    let at = token.place;
     Some((Expr::Variable { variable, at }, rest))
 }
 
@@ -74,24 +74,24 @@ fn variable<'a>(names: &Names, piece: &'a Piece, rest: &'a [Piece]) -> Option<(E
 fn operand<'a>(
     alloc: Global,
     names: &Names,
-    pieces: &'a [Piece],
-) -> Result<Option<(Expr, &'a [Piece])>, NoMemory>
+    tokens: &'a [Token],
+) -> Result<Option<(Expr, &'a [Token])>, NoMemory>
     requires { length names.now ≤ 4294967296 }
-    ensures found { IfOk result (λ f. IfSome f (λ x. Reads names.now 0 pieces.now (tree.tree_of x.0) x.1.now)) }
-    ensures only { (t : tree.Tree) (rest : Items Piece) → Reads names.now 0 pieces.now t rest → IfOk result (λ f. IsSomeAnd f (λ x. (tree.tree_of x.0 ≡ t) × (x.1.now ≡ rest))) }
-    ensures shorter { IfOk result (λ f. IfSome f (λ x. length x.1.now < length pieces.now)) }
+    ensures found { IfOk result (λ f. IfSome f (λ x. Reads names.now 0 tokens.now (tree.tree_of x.0) x.1.now)) }
+    ensures only { (t : tree.Tree) (rest : Items Token) → Reads names.now 0 tokens.now t rest → IfOk result (λ f. IsSomeAnd f (λ x. (tree.tree_of x.0 ≡ t) × (x.1.now ≡ rest))) }
+    ensures shorter { IfOk result (λ f. IfSome f (λ x. length x.1.now < length tokens.now)) }
 {
-    let Some((piece, rest)) = first(pieces) else {
+    let Some((token, rest)) = first(tokens) else {
         return Ok(None);
     };
-    match terminal_of(piece) {
+    match terminal_of(token) {
         Terminal::Number(value) => {
-            let at = piece.token.place;
+            let at = token.place;
             Ok(Some((Expr::Number { value, at }, rest)))
         }
-        Terminal::Name => Ok(variable(names, piece, rest)),
-        Terminal::Minus => negation(alloc, names, piece, rest),
-        Terminal::Open => bracketed(alloc, names, piece, rest),
+        Terminal::Name => Ok(variable(names, token, rest)),
+        Terminal::Minus => negation(alloc, names, token, rest),
+        Terminal::Open => bracketed(alloc, names, token, rest),
         _ => Ok(None),
     }
 }
@@ -102,19 +102,19 @@ fn operand<'a>(
 fn negation<'a>(
     alloc: Global,
     names: &Names,
-    piece: &'a Piece,
-    pieces: &'a [Piece],
-) -> Result<Option<(Expr, &'a [Piece])>, NoMemory>
+    token: &'a Token,
+    tokens: &'a [Token],
+) -> Result<Option<(Expr, &'a [Token])>, NoMemory>
     requires few { length names.now ≤ 4294967296 }
-    requires minus { terminal piece.now ≡ Terminal.Minus }
-    ensures found { IfOk result (λ f. IfSome f (λ x. Reads names.now 0 (piece.now ∷ pieces.now) (tree.tree_of x.0) x.1.now)) }
-    ensures only { (t : tree.Tree) (rest : Items Piece) → Reads names.now 0 (piece.now ∷ pieces.now) t rest → IfOk result (λ f. IsSomeAnd f (λ x. (tree.tree_of x.0 ≡ t) × (x.1.now ≡ rest))) }
-    ensures shorter { IfOk result (λ f. IfSome f (λ x. length x.1.now < length pieces.now)) }
+    requires minus { terminal token.now ≡ Terminal.Minus }
+    ensures found { IfOk result (λ f. IfSome f (λ x. Reads names.now 0 (token.now ∷ tokens.now) (tree.tree_of x.0) x.1.now)) }
+    ensures only { (t : tree.Tree) (rest : Items Token) → Reads names.now 0 (token.now ∷ tokens.now) t rest → IfOk result (λ f. IsSomeAnd f (λ x. (tree.tree_of x.0 ≡ t) × (x.1.now ≡ rest))) }
+    ensures shorter { IfOk result (λ f. IfSome f (λ x. length x.1.now < length tokens.now)) }
 {
-    match operand(alloc, names, pieces)? {
+    match operand(alloc, names, tokens)? {
         None => Ok(None),
         Some((inner, rest)) => {
-            let at = piece.token.place;
+            let at = token.place;
             let operand = Boxed::new(alloc, inner)?;
             Ok(Some((Expr::Negation { at, operand }, rest)))
         }
@@ -127,16 +127,16 @@ fn negation<'a>(
 fn bracketed<'a>(
     alloc: Global,
     names: &Names,
-    piece: &'a Piece,
-    pieces: &'a [Piece],
-) -> Result<Option<(Expr, &'a [Piece])>, NoMemory>
+    token: &'a Token,
+    tokens: &'a [Token],
+) -> Result<Option<(Expr, &'a [Token])>, NoMemory>
     requires few { length names.now ≤ 4294967296 }
-    requires open { terminal piece.now ≡ Terminal.Open }
-    ensures found { IfOk result (λ f. IfSome f (λ x. Reads names.now 0 (piece.now ∷ pieces.now) (tree.tree_of x.0) x.1.now)) }
-    ensures only { (t : tree.Tree) (rest : Items Piece) → Reads names.now 0 (piece.now ∷ pieces.now) t rest → IfOk result (λ f. IsSomeAnd f (λ x. (tree.tree_of x.0 ≡ t) × (x.1.now ≡ rest))) }
-    ensures shorter { IfOk result (λ f. IfSome f (λ x. length x.1.now < length pieces.now)) }
+    requires open { terminal token.now ≡ Terminal.Open }
+    ensures found { IfOk result (λ f. IfSome f (λ x. Reads names.now 0 (token.now ∷ tokens.now) (tree.tree_of x.0) x.1.now)) }
+    ensures only { (t : tree.Tree) (rest : Items Token) → Reads names.now 0 (token.now ∷ tokens.now) t rest → IfOk result (λ f. IsSomeAnd f (λ x. (tree.tree_of x.0 ≡ t) × (x.1.now ≡ rest))) }
+    ensures shorter { IfOk result (λ f. IfSome f (λ x. length x.1.now < length tokens.now)) }
 {
-    match chain(alloc, names, 2, pieces)? {
+    match chain(alloc, names, 2, tokens)? {
         None => Ok(None),
         Some((inner, behind)) => match after_terminal(Terminal::Close, behind) {
             None => Ok(None),
@@ -155,18 +155,18 @@ pub(crate) fn chain<'a>(
     alloc: Global,
     names: &Names,
     level: u8,
-    pieces: &'a [Piece],
-) -> Result<Option<(Expr, &'a [Piece])>, NoMemory>
+    tokens: &'a [Token],
+) -> Result<Option<(Expr, &'a [Token])>, NoMemory>
     requires few { length names.now ≤ 4294967296 }
     requires level { level ≤ 2 }
-    ensures found { IfOk result (λ f. IfSome f (λ x. Reads names.now level pieces.now (tree.tree_of x.0) x.1.now)) }
-    ensures only { (t : tree.Tree) (rest : Items Piece) → Reads names.now level pieces.now t rest → Stops level rest → IfOk result (λ f. IsSomeAnd f (λ x. (tree.tree_of x.0 ≡ t) × (x.1.now ≡ rest))) }
-    ensures shorter { IfOk result (λ f. IfSome f (λ x. length x.1.now < length pieces.now)) }
+    ensures found { IfOk result (λ f. IfSome f (λ x. Reads names.now level tokens.now (tree.tree_of x.0) x.1.now)) }
+    ensures only { (t : tree.Tree) (rest : Items Token) → Reads names.now level tokens.now t rest → Stops level rest → IfOk result (λ f. IsSomeAnd f (λ x. (tree.tree_of x.0 ≡ t) × (x.1.now ≡ rest))) }
+    ensures shorter { IfOk result (λ f. IfSome f (λ x. length x.1.now < length tokens.now)) }
 {
     if level == 0 {
-        return operand(alloc, names, pieces);
+        return operand(alloc, names, tokens);
     }
-    match chain(alloc, names, level - 1, pieces)? {
+    match chain(alloc, names, level - 1, tokens)? {
         None => Ok(None),
         Some((left, rest)) => operators(alloc, names, level, left, rest),
     }
@@ -180,24 +180,24 @@ fn operators<'a>(
     names: &Names,
     level: u8,
     left: Expr,
-    pieces: &'a [Piece],
-) -> Result<Option<(Expr, &'a [Piece])>, NoMemory>
+    tokens: &'a [Token],
+) -> Result<Option<(Expr, &'a [Token])>, NoMemory>
     requires few { length names.now ≤ 4294967296 }
     requires low { 0 < level }
     requires level { level ≤ 2 }
-    ensures found { IfOk result (λ f. IfSome f (λ x. Chains names.now level (tree.tree_of left) pieces.now (tree.tree_of x.0) x.1.now)) }
-    ensures only { (t : tree.Tree) (rest : Items Piece) → Chains names.now level (tree.tree_of left) pieces.now t rest → Stops level rest → IfOk result (λ f. IsSomeAnd f (λ x. (tree.tree_of x.0 ≡ t) × (x.1.now ≡ rest))) }
-    ensures shorter { IfOk result (λ f. IfSome f (λ x. length x.1.now ≤ length pieces.now)) }
+    ensures found { IfOk result (λ f. IfSome f (λ x. Chains names.now level (tree.tree_of left) tokens.now (tree.tree_of x.0) x.1.now)) }
+    ensures only { (t : tree.Tree) (rest : Items Token) → Chains names.now level (tree.tree_of left) tokens.now t rest → Stops level rest → IfOk result (λ f. IsSomeAnd f (λ x. (tree.tree_of x.0 ≡ t) × (x.1.now ≡ rest))) }
+    ensures shorter { IfOk result (λ f. IfSome f (λ x. length x.1.now ≤ length tokens.now)) }
 {
     let mut left = left;
-    let mut rest = pieces;
-    while let Some((operator, piece, behind)) = operator_at(level, rest) {
+    let mut rest = tokens;
+    while let Some((operator, token, behind)) = operator_at(level, rest) {
         match chain(alloc, names, level - 1, behind)? {
             None => return Ok(None),
             Some((right, after)) => {
                 left = Expr::Binary {
                     operator,
-                    at: piece.token.place,
+                    at: token.place,
                     left: Boxed::new(alloc, left)?,
                     right: Boxed::new(alloc, right)?,
                 };

@@ -1,14 +1,14 @@
 //! Laws of first texts and their runs, each by the contract of a function that does nothing.
 ghost use Rattle.std.specs.Prelude.{◌≡◌, ℕ, List};
-ghost use Rattle.cx_lex.specs.declared.piece.Piece.{Piece};
+ghost use Rattle.cx_tokens.specs.declared.token.Token.{Token};
 ghost use Rattle.cx_first.specs.declared.evaluation.Undefined.{Undefined};
 ghost use Rattle.cx_first.specs.Tree.{Source};
 ghost use Rattle.cx_first.specs.Grammar.{IsFirstText};
 ghost use Rattle.cx_first.specs.Runs as meaning;
 
-/// At most one tree reads the pieces of a text.
+/// At most one tree reads the tokens of a text.
 pub fn one_tree()
-    ensures { (pieces : List Piece) (source other : Source) → IsFirstText pieces source → IsFirstText pieces other → source ≡ other }
+    ensures { (tokens : List Token) (source other : Source) → IsFirstText tokens source → IsFirstText tokens other → source ≡ other }
 {}
 
 /// Each text has exactly one longest run, and each run is a front of it.

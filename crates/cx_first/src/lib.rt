@@ -17,6 +17,7 @@ mod keywords;
 mod laws;
 mod names;
 mod nodes;
+mod number;
 mod reader;
 mod runs;
 mod statements;

@@ -1,6 +1,6 @@
-//! First texts from pieces.
+//! First texts from tokens.
 ghost use Rattle.std.specs.Prelude.{◌≡◌, ◌≤◌, ◌<◌, List as Items, [], ◌∷◌, length, map, IfOk, IfSome, IfNone, IsSomeAnd};
-ghost use Rattle.cx_lex.specs.declared.piece.Piece.{Piece};
+ghost use Rattle.cx_tokens.specs.declared.token.Token.{Token};
 ghost use Rattle.cx_first.specs.Tree.{Form, Source, form_of, source_of};
 ghost use Rattle.cx_first.specs.Names.{Names as NamesSoFar};
 ghost use Rattle.cx_first.specs.Grammar.{Body, ReadsText, IsFirstText};
@@ -12,21 +12,21 @@ use crate::statements::{Awaits, statement};
 use crate::terminals::{Terminal, after_terminal, first, terminal_of};
 use crate::tree::{FirstText, Statement};
 use cx_base::{List, NoMemory};
-use cx_lex::Piece;
 use cx_table::NameKey;
+use cx_tokens::Token;
 use sha2::{Digest, Sha256};
 use std::alloc::Global;
 
-/// The most pieces that an expression may have.
+/// The most tokens that an expression may have.
 const LONGEST: usize = 256;
 
-/// Whether the body ends here, with the last of its pieces.
+/// Whether the body ends here, with the last of its tokens.
 #[tactic(auto, unfolding(crate::specs::Descent::is_closed))]
-fn is_closed(awaits: Awaits, pieces: &[Piece]) -> bool
-    ensures { result ≡ is_closed awaits pieces.now }
+fn is_closed(awaits: Awaits, tokens: &[Token]) -> bool
+    ensures { result ≡ is_closed awaits tokens.now }
 {
-    match (awaits, pieces) {
-        (Awaits::Statement, [piece]) => matches!(terminal_of(piece), Terminal::End),
+    match (awaits, tokens) {
+        (Awaits::Statement, [token]) => matches!(terminal_of(token), Terminal::End),
         _ => false,
     }
 }
@@ -37,16 +37,16 @@ fn body(
     function: &[u8],
     limit: usize,
     names: &mut Names,
-    pieces: &[Piece],
+    tokens: &[Token],
 ) -> Result<Option<List<Statement>>, NoMemory>
-    requires few { length pieces.now < 4294967296 }
+    requires few { length tokens.now < 4294967296 }
     requires none { names.old ≡ [] }
-    ensures found { IfOk result (λ f. IfSome f (λ x. Body limit function.now Awaits.Statement [] pieces.now (map form_of x) names.new)) }
-    ensures only { (forms : Items Form) (all : NamesSoFar) → Body limit function.now Awaits.Statement [] pieces.now forms all → IfOk result (λ f. IsSomeAnd f (λ x. (map form_of x ≡ forms) × (names.new ≡ all))) }
+    ensures found { IfOk result (λ f. IfSome f (λ x. Body limit function.now Awaits.Statement [] tokens.now (map form_of x) names.new)) }
+    ensures only { (forms : Items Form) (all : NamesSoFar) → Body limit function.now Awaits.Statement [] tokens.now forms all → IfOk result (λ f. IsSomeAnd f (λ x. (map form_of x ≡ forms) × (names.new ≡ all))) }
 {
     let mut statements = List::new(alloc);
     let mut awaits = Awaits::Statement;
-    let mut rest = pieces;
+    let mut rest = tokens;
     while !is_closed(awaits, rest) {
         match statement(alloc, function, limit, names, awaits, rest)? {
             None => return Ok(None),
@@ -61,11 +61,11 @@ fn body(
 }
 
 /// What stands behind `( void ) {`.
-fn opening(pieces: &[Piece]) -> Option<&[Piece]>
-    ensures none { IfNone result (NoOpening pieces.now) }
-    ensures some { IfSome result (λ rest. OpeningAt pieces.now rest.now) }
+fn opening(tokens: &[Token]) -> Option<&[Token]>
+    ensures none { IfNone result (NoOpening tokens.now) }
+    ensures some { IfSome result (λ rest. OpeningAt tokens.now rest.now) }
 {
-    let Some(rest) = after_terminal(Terminal::Open, pieces) else {
+    let Some(rest) = after_terminal(Terminal::Open, tokens) else {
         return None;
     };
     let Some(rest) = after_terminal(Terminal::Void, rest) else {
@@ -77,12 +77,12 @@ fn opening(pieces: &[Piece]) -> Option<&[Piece]>
     after_terminal(Terminal::Begin, rest)
 }
 
-/// The name of a function, and the pieces of its body.
-fn header(pieces: &[Piece]) -> Option<(&Piece, &[Piece])>
-    ensures none { IfNone result (NoHeader pieces.now) }
-    ensures some { IfSome result (λ x. HeaderAt pieces.now x.0.now x.1.now) }
+/// The name of a function, and the tokens of its body.
+fn header(tokens: &[Token]) -> Option<(&Token, &[Token])>
+    ensures none { IfNone result (NoHeader tokens.now) }
+    ensures some { IfSome result (λ x. HeaderAt tokens.now x.0.now x.1.now) }
 {
-    let Some(named) = after_terminal(Terminal::Int, pieces) else {
+    let Some(named) = after_terminal(Terminal::Int, tokens) else {
         return None;
     };
     let Some((name, _)) = first(named) else {
@@ -97,11 +97,11 @@ fn header(pieces: &[Piece]) -> Option<(&Piece, &[Piece])>
     }
 }
 
-/// The key that the names of these pieces are hashed with, from all their texts.
-fn key_of(pieces: &[Piece]) -> NameKey {
+/// The key that the names of these tokens are hashed with, from all their texts.
+fn key_of(tokens: &[Token]) -> NameKey {
     let mut hasher = Sha256::new();
-    for piece in pieces {
-        hasher.update(piece.token.text.as_slice());
+    for token in tokens {
+        hasher.update(token.text.as_slice());
         hasher.update(b"\n");
     }
     let digest: [u8; 32] = hasher.finalize();
@@ -113,14 +113,14 @@ fn function(
     alloc: Global,
     name: &[u8],
     limit: usize,
-    pieces: &[Piece],
+    tokens: &[Token],
 ) -> Result<Option<FirstText>, NoMemory>
-    requires { length pieces.now < 4294967296 }
-    ensures found { IfOk result (λ f. IfSome f (λ x. Body limit name.now Awaits.Statement [] pieces.now (map form_of x.statements) x.names)) }
-    ensures only { (forms : Items Form) (all : NamesSoFar) → Body limit name.now Awaits.Statement [] pieces.now forms all → IfOk result (λ f. IsSomeAnd f (λ x. (map form_of x.statements ≡ forms) × (x.names ≡ all))) }
+    requires { length tokens.now < 4294967296 }
+    ensures found { IfOk result (λ f. IfSome f (λ x. Body limit name.now Awaits.Statement [] tokens.now (map form_of x.statements) x.names)) }
+    ensures only { (forms : Items Form) (all : NamesSoFar) → Body limit name.now Awaits.Statement [] tokens.now forms all → IfOk result (λ f. IsSomeAnd f (λ x. (map form_of x.statements ≡ forms) × (x.names ≡ all))) }
 {
-    let mut names = Names::new(alloc, key_of(pieces));
-    match body(alloc, name, limit, &mut names, pieces)? {
+    let mut names = Names::new(alloc, key_of(tokens));
+    match body(alloc, name, limit, &mut names, tokens)? {
         None => Ok(None),
         Some(statements) => {
             let names = names.to_list(alloc)?;
@@ -129,34 +129,34 @@ fn function(
     }
 }
 
-/// The first text that the pieces are, with expressions of at most so many pieces.
-fn read_within(alloc: Global, limit: usize, pieces: &[Piece]) -> Result<Option<FirstText>, NoMemory>
-    requires { length pieces.now < 4294967296 }
-    ensures found { IfOk result (λ f. IfSome f (λ text. ReadsText limit pieces.now (source_of text))) }
-    ensures only { (source : Source) → ReadsText limit pieces.now source → IfOk result (λ f. IsSomeAnd f (λ text. source_of text ≡ source)) }
+/// The first text that the tokens are, with expressions of at most so many tokens.
+fn read_within(alloc: Global, limit: usize, tokens: &[Token]) -> Result<Option<FirstText>, NoMemory>
+    requires { length tokens.now < 4294967296 }
+    ensures found { IfOk result (λ f. IfSome f (λ text. ReadsText limit tokens.now (source_of text))) }
+    ensures only { (source : Source) → ReadsText limit tokens.now source → IfOk result (λ f. IsSomeAnd f (λ text. source_of text ≡ source)) }
 {
-    if pieces.is_empty() {
+    if tokens.is_empty() {
         return Ok(Some(FirstText {
             names: List::new(alloc),
             statements: List::new(alloc),
         }));
     }
-    match header(pieces) {
+    match header(tokens) {
         None => Ok(None),
-        Some((name, rest)) => function(alloc, name.token.text.as_slice(), limit, rest),
+        Some((name, rest)) => function(alloc, name.text.as_slice(), limit, rest),
     }
 }
 
-/// The first text that the pieces are: none at all, or one function `int Name ( void ) { .. }` of
+/// The first text that the tokens are: none at all, or one function `int Name ( void ) { .. }` of
 /// int declarations, assignments and returns, each name declared once and before its uses, and no
-/// expression of more than 256 pieces (C11 6.9.1, 6.8.2, 6.7, 6.5). `None` where they are no first
+/// expression of more than 256 tokens (C11 6.9.1, 6.8.2, 6.7, 6.5). `None` where they are no first
 /// text.
 #[tactic(auto, using(crate::proofs::SizeLaws::text_numbered))]
-pub fn read(alloc: Global, pieces: &[Piece]) -> Result<Option<FirstText>, NoMemory>
-    requires { length pieces.now < 4294967295 }
-    ensures found { IfOk result (λ f. IfSome f (λ text. IsFirstText pieces.now (source_of text))) }
-    ensures only { (source : Source) → IsFirstText pieces.now source → IfOk result (λ f. IsSomeAnd f (λ text. source_of text ≡ source)) }
+pub fn read(alloc: Global, tokens: &[Token]) -> Result<Option<FirstText>, NoMemory>
+    requires { length tokens.now < 4294967295 }
+    ensures found { IfOk result (λ f. IfSome f (λ text. IsFirstText tokens.now (source_of text))) }
+    ensures only { (source : Source) → IsFirstText tokens.now source → IfOk result (λ f. IsSomeAnd f (λ text. source_of text ≡ source)) }
     ensures numbered { IfOk result (λ f. IfSome f (λ text. IsNumbered (source_of text))) }
 {
-    read_within(alloc, LONGEST, pieces)
+    read_within(alloc, LONGEST, tokens)
 }

@@ -1,6 +1,6 @@
-//! Statements and declarators from pieces, one at a time.
+//! Statements and declarators from tokens, one at a time.
 ghost use Rattle.std.specs.Prelude.{◌≡◌, ◌≤◌, ◌<◌, ◌+◌, ℕ, List as Items, [], ◌∷◌, ◌++◌, length, IfOk, IfSome, IfNone, IsSomeAnd, IsTrue, Option as Maybe, None, Some, option_map};
-ghost use Rattle.cx_lex.specs.declared.piece.Piece.{Piece};
+ghost use Rattle.cx_tokens.specs.declared.token.Token.{Token};
 ghost use Rattle.cx_first.specs.Tree.{Tree, Form, tree_of, form_of};
 ghost use Rattle.cx_first.specs.Names.{Names as NamesSoFar, index_of};
 ghost use Rattle.cx_first.specs.Grammar.{Expression, Initialiser, Declarator, Simple, Reading, IsNew, follows};
@@ -13,7 +13,7 @@ use crate::names::Names;
 use crate::terminals::{Terminal, after_terminal, first, terminal_of};
 use crate::tree::{Expr, Statement};
 use cx_base::NoMemory;
-use cx_lex::Piece;
+use cx_tokens::Token;
 use std::alloc::Global;
 
 /// What the reader awaits.
@@ -36,15 +36,15 @@ fn ends_expression(terminal: Terminal) -> bool
     }
 }
 
-/// How many pieces stand before the first mark that ends an expression, where they are at most so
+/// How many tokens stand before the first mark that ends an expression, where they are at most so
 /// many.
-fn length_of(limit: usize, pieces: &[Piece]) -> Option<usize>
-    ensures { result ≡ ends_after limit pieces.now }
+fn length_of(limit: usize, tokens: &[Token]) -> Option<usize>
+    ensures { result ≡ ends_after limit tokens.now }
 {
     let mut count = 0;
-    let mut rest = pieces;
-    while let Some((piece, behind)) = first(rest) {
-        if ends_expression(terminal_of(piece)) {
+    let mut rest = tokens;
+    while let Some((token, behind)) = first(rest) {
+        if ends_expression(terminal_of(token)) {
             return Some(count);
         }
         if count == limit {
@@ -56,22 +56,22 @@ fn length_of(limit: usize, pieces: &[Piece]) -> Option<usize>
     None
 }
 
-/// An expression of at most so many pieces, and the mark behind it.
+/// An expression of at most so many tokens, and the mark behind it.
 fn expression<'a>(
     alloc: Global,
     names: &Names,
     limit: usize,
-    pieces: &'a [Piece],
-) -> Result<Option<(Expr, Terminal, &'a [Piece])>, NoMemory>
+    tokens: &'a [Token],
+) -> Result<Option<(Expr, Terminal, &'a [Token])>, NoMemory>
     requires { length names.now ≤ 4294967296 }
-    ensures found { IfOk result (λ f. IfSome f (λ x. Expression limit names.now pieces.now (tree_of x.0) x.1 x.2.now)) }
-    ensures only { (t : Tree) (mark : Terminal) (rest : Items Piece) → Expression limit names.now pieces.now t mark rest → IsTrue (ends_expression mark) → IfOk result (λ f. IsSomeAnd f (λ x. (tree_of x.0 ≡ t) × (x.1 ≡ mark) × (x.2.now ≡ rest))) }
-    ensures shorter { IfOk result (λ f. IfSome f (λ x. length x.2.now < length pieces.now)) }
+    ensures found { IfOk result (λ f. IfSome f (λ x. Expression limit names.now tokens.now (tree_of x.0) x.1 x.2.now)) }
+    ensures only { (t : Tree) (mark : Terminal) (rest : Items Token) → Expression limit names.now tokens.now t mark rest → IsTrue (ends_expression mark) → IfOk result (λ f. IsSomeAnd f (λ x. (tree_of x.0 ≡ t) × (x.1 ≡ mark) × (x.2.now ≡ rest))) }
+    ensures shorter { IfOk result (λ f. IfSome f (λ x. length x.2.now < length tokens.now)) }
 {
-    let Some(count) = length_of(limit, pieces) else {
+    let Some(count) = length_of(limit, tokens) else {
         return Ok(None);
     };
-    let (front, behind) = pieces.split_at(count);
+    let (front, behind) = tokens.split_at(count);
     let Some((last, rest)) = first(behind) else {
         return Ok(None);
     };
@@ -99,26 +99,26 @@ fn follows(mark: Terminal) -> Option<Awaits>
     }
 }
 
-/// The name that a declarator begins with, where it may be declared, and the pieces behind it.
+/// The name that a declarator begins with, where it may be declared, and the tokens behind it.
 fn new_name<'a>(
     function: &[u8],
     names: &Names,
-    pieces: &'a [Piece],
-) -> Option<(&'a Piece, &'a [Piece])>
+    tokens: &'a [Token],
+) -> Option<(&'a Token, &'a [Token])>
     requires { length names.now ≤ 4294967296 }
-    ensures none { IfNone result (NoNewName function.now names.now pieces.now) }
-    ensures some { IfSome result (λ x. NewNameAt function.now names.now pieces.now x.0.now x.1.now) }
+    ensures none { IfNone result (NoNewName function.now names.now tokens.now) }
+    ensures some { IfSome result (λ x. NewNameAt function.now names.now tokens.now x.0.now x.1.now) }
 {
-    let (piece, rest) = first(pieces)?;
-    let text = piece.token.text.as_slice();
-    match terminal_of(piece) {
+    let (token, rest) = first(tokens)?;
+    let text = token.text.as_slice();
+    match terminal_of(token) {
         Terminal::Name => {
             if equals(text, function) {
                 return None;
             }
             match names.find(text) {
                 Some(_) => None,
-                None => Some((piece, rest)),
+                None => Some((token, rest)),
             }
         }
         _ => None,
@@ -130,17 +130,17 @@ fn initialiser<'a>(
     alloc: Global,
     names: &Names,
     limit: usize,
-    pieces: &'a [Piece],
-) -> Result<Option<(Option<Expr>, Terminal, &'a [Piece])>, NoMemory>
+    tokens: &'a [Token],
+) -> Result<Option<(Option<Expr>, Terminal, &'a [Token])>, NoMemory>
     requires { length names.now ≤ 4294967296 }
-    ensures found { IfOk result (λ f. IfSome f (λ x. Initialiser limit names.now pieces.now (option_map tree_of x.0) x.1 x.2.now)) }
-    ensures only { (t : Maybe Tree) (mark : Terminal) (rest : Items Piece) → Initialiser limit names.now pieces.now t mark rest → IsTrue (ends_expression mark) → IfOk result (λ f. IsSomeAnd f (λ x. (option_map tree_of x.0 ≡ t) × (x.1 ≡ mark) × (x.2.now ≡ rest))) }
-    ensures shorter { IfOk result (λ f. IfSome f (λ x. length x.2.now < length pieces.now)) }
+    ensures found { IfOk result (λ f. IfSome f (λ x. Initialiser limit names.now tokens.now (option_map tree_of x.0) x.1 x.2.now)) }
+    ensures only { (t : Maybe Tree) (mark : Terminal) (rest : Items Token) → Initialiser limit names.now tokens.now t mark rest → IsTrue (ends_expression mark) → IfOk result (λ f. IsSomeAnd f (λ x. (option_map tree_of x.0 ≡ t) × (x.1 ≡ mark) × (x.2.now ≡ rest))) }
+    ensures shorter { IfOk result (λ f. IfSome f (λ x. length x.2.now < length tokens.now)) }
 {
-    let Some((piece, rest)) = first(pieces) else {
+    let Some((token, rest)) = first(tokens) else {
         return Ok(None);
     };
-    match terminal_of(piece) {
+    match terminal_of(token) {
         Terminal::Equals => match expression(alloc, names, limit, rest)? {
             None => Ok(None),
             Some((value, mark, rest)) => Ok(Some((Some(value), mark, rest))),
@@ -155,23 +155,23 @@ fn declarator<'a>(
     function: &[u8],
     limit: usize,
     names: &mut Names,
-    pieces: &'a [Piece],
-) -> Result<Option<(Statement, Terminal, &'a [Piece])>, NoMemory>
+    tokens: &'a [Token],
+) -> Result<Option<(Statement, Terminal, &'a [Token])>, NoMemory>
     requires { length names.old < 4294967296 }
-    ensures found { IfOk result (λ f. IfSome f (λ x. Declarator limit function.now names.old pieces.now (form_of x.0) x.1 names.new x.2.now)) }
-    ensures only { (form : Form) (mark : Terminal) (then : NamesSoFar) (rest : Items Piece) → Declarator limit function.now names.old pieces.now form mark then rest → IsTrue (ends_expression mark) → IfOk result (λ f. IsSomeAnd f (λ x. (form_of x.0 ≡ form) × (x.1 ≡ mark) × (names.new ≡ then) × (x.2.now ≡ rest))) }
-    ensures shorter { IfOk result (λ f. IfSome f (λ x. length x.2.now < length pieces.now)) }
+    ensures found { IfOk result (λ f. IfSome f (λ x. Declarator limit function.now names.old tokens.now (form_of x.0) x.1 names.new x.2.now)) }
+    ensures only { (form : Form) (mark : Terminal) (then : NamesSoFar) (rest : Items Token) → Declarator limit function.now names.old tokens.now form mark then rest → IsTrue (ends_expression mark) → IfOk result (λ f. IsSomeAnd f (λ x. (form_of x.0 ≡ form) × (x.1 ≡ mark) × (names.new ≡ then) × (x.2.now ≡ rest))) }
+    ensures shorter { IfOk result (λ f. IfSome f (λ x. length x.2.now < length tokens.now)) }
     ensures grown { IfOk result (λ _. length names.new ≤ length names.old + 1) }
 {
-    let Some((piece, rest)) = new_name(function, names, pieces) else {
+    let Some((token, rest)) = new_name(function, names, tokens) else {
         return Ok(None);
     };
     let variable = names.len() as u32;
-    names.declare(alloc, piece.token.text.as_slice())?;
+    names.declare(alloc, token.text.as_slice())?;
     match initialiser(alloc, names, limit, rest)? {
         None => Ok(None),
         Some((value, mark, rest)) => {
-            let at = piece.token.place;
+            let at = token.place;
             Ok(Some((
                 Statement::Declare {
                     variable,
@@ -191,15 +191,15 @@ fn declaration<'a>(
     function: &[u8],
     limit: usize,
     names: &mut Names,
-    pieces: &'a [Piece],
-) -> Result<Option<(Statement, Awaits, &'a [Piece])>, NoMemory>
+    tokens: &'a [Token],
+) -> Result<Option<(Statement, Awaits, &'a [Token])>, NoMemory>
     requires { length names.old < 4294967296 }
-    ensures found { IfOk result (λ f. IfSome f (λ x. Reading limit function.now names.old Awaits.Declarator pieces.now (form_of x.0) x.1 names.new x.2.now)) }
-    ensures only { (form : Form) (next : Awaits) (then : NamesSoFar) (rest : Items Piece) → Reading limit function.now names.old Awaits.Declarator pieces.now form next then rest → IfOk result (λ f. IsSomeAnd f (λ x. (form_of x.0 ≡ form) × (x.1 ≡ next) × (names.new ≡ then) × (x.2.now ≡ rest))) }
-    ensures shorter { IfOk result (λ f. IfSome f (λ x. length x.2.now < length pieces.now)) }
+    ensures found { IfOk result (λ f. IfSome f (λ x. Reading limit function.now names.old Awaits.Declarator tokens.now (form_of x.0) x.1 names.new x.2.now)) }
+    ensures only { (form : Form) (next : Awaits) (then : NamesSoFar) (rest : Items Token) → Reading limit function.now names.old Awaits.Declarator tokens.now form next then rest → IfOk result (λ f. IsSomeAnd f (λ x. (form_of x.0 ≡ form) × (x.1 ≡ next) × (names.new ≡ then) × (x.2.now ≡ rest))) }
+    ensures shorter { IfOk result (λ f. IfSome f (λ x. length x.2.now < length tokens.now)) }
     ensures grown { IfOk result (λ _. length names.new ≤ length names.old + 1) }
 {
-    match declarator(alloc, function, limit, names, pieces)? {
+    match declarator(alloc, function, limit, names, tokens)? {
         None => Ok(None),
         Some((statement, mark, rest)) => match follows(mark) {
             None => Ok(None),
@@ -213,14 +213,14 @@ fn closed_expression<'a>(
     alloc: Global,
     limit: usize,
     names: &Names,
-    pieces: &'a [Piece],
-) -> Result<Option<(Expr, &'a [Piece])>, NoMemory>
+    tokens: &'a [Token],
+) -> Result<Option<(Expr, &'a [Token])>, NoMemory>
     requires { length names.now ≤ 4294967296 }
-    ensures found { IfOk result (λ f. IfSome f (λ x. Expression limit names.now pieces.now (tree_of x.0) Terminal.Semicolon x.1.now)) }
-    ensures only { (t : Tree) (rest : Items Piece) → Expression limit names.now pieces.now t Terminal.Semicolon rest → IfOk result (λ f. IsSomeAnd f (λ x. (tree_of x.0 ≡ t) × (x.1.now ≡ rest))) }
-    ensures shorter { IfOk result (λ f. IfSome f (λ x. length x.1.now < length pieces.now)) }
+    ensures found { IfOk result (λ f. IfSome f (λ x. Expression limit names.now tokens.now (tree_of x.0) Terminal.Semicolon x.1.now)) }
+    ensures only { (t : Tree) (rest : Items Token) → Expression limit names.now tokens.now t Terminal.Semicolon rest → IfOk result (λ f. IsSomeAnd f (λ x. (tree_of x.0 ≡ t) × (x.1.now ≡ rest))) }
+    ensures shorter { IfOk result (λ f. IfSome f (λ x. length x.1.now < length tokens.now)) }
 {
-    match expression(alloc, names, limit, pieces)? {
+    match expression(alloc, names, limit, tokens)? {
         None => Ok(None),
         Some((value, mark, rest)) => match mark {
             Terminal::Semicolon => Ok(Some((value, rest))),
@@ -234,25 +234,25 @@ fn assignment<'a>(
     alloc: Global,
     limit: usize,
     names: &Names,
-    piece: &Piece,
-    pieces: &'a [Piece],
-) -> Result<Option<(Statement, &'a [Piece])>, NoMemory>
+    token: &Token,
+    tokens: &'a [Token],
+) -> Result<Option<(Statement, &'a [Token])>, NoMemory>
     requires few { length names.now ≤ 4294967296 }
-    requires name { terminal piece.now ≡ Terminal.Name }
-    ensures found { IfOk result (λ f. IfSome f (λ x. Simple limit names.now (piece.now ∷ pieces.now) (form_of x.0) x.1.now)) }
-    ensures only { (form : Form) (rest : Items Piece) → Simple limit names.now (piece.now ∷ pieces.now) form rest → IfOk result (λ f. IsSomeAnd f (λ x. (form_of x.0 ≡ form) × (x.1.now ≡ rest))) }
-    ensures shorter { IfOk result (λ f. IfSome f (λ x. length x.1.now < length pieces.now)) }
+    requires name { terminal token.now ≡ Terminal.Name }
+    ensures found { IfOk result (λ f. IfSome f (λ x. Simple limit names.now (token.now ∷ tokens.now) (form_of x.0) x.1.now)) }
+    ensures only { (form : Form) (rest : Items Token) → Simple limit names.now (token.now ∷ tokens.now) form rest → IfOk result (λ f. IsSomeAnd f (λ x. (form_of x.0 ≡ form) × (x.1.now ≡ rest))) }
+    ensures shorter { IfOk result (λ f. IfSome f (λ x. length x.1.now < length tokens.now)) }
 {
-    let Some(variable) = names.find(piece.token.text.as_slice()) else {
+    let Some(variable) = names.find(token.text.as_slice()) else {
         return Ok(None);
     };
-    let Some(rest) = after_terminal(Terminal::Equals, pieces) else {
+    let Some(rest) = after_terminal(Terminal::Equals, tokens) else {
         return Ok(None);
     };
     match closed_expression(alloc, limit, names, rest)? {
         None => Ok(None),
         Some((value, rest)) => {
-            let at = piece.token.place;
+            let at = token.place;
             Ok(Some((
                 Statement::Assign {
                     variable,
@@ -270,19 +270,19 @@ fn returned<'a>(
     alloc: Global,
     limit: usize,
     names: &Names,
-    piece: &Piece,
-    pieces: &'a [Piece],
-) -> Result<Option<(Statement, &'a [Piece])>, NoMemory>
+    token: &Token,
+    tokens: &'a [Token],
+) -> Result<Option<(Statement, &'a [Token])>, NoMemory>
     requires few { length names.now ≤ 4294967296 }
-    requires word { terminal piece.now ≡ Terminal.Return }
-    ensures found { IfOk result (λ f. IfSome f (λ x. Simple limit names.now (piece.now ∷ pieces.now) (form_of x.0) x.1.now)) }
-    ensures only { (form : Form) (rest : Items Piece) → Simple limit names.now (piece.now ∷ pieces.now) form rest → IfOk result (λ f. IsSomeAnd f (λ x. (form_of x.0 ≡ form) × (x.1.now ≡ rest))) }
-    ensures shorter { IfOk result (λ f. IfSome f (λ x. length x.1.now < length pieces.now)) }
+    requires word { terminal token.now ≡ Terminal.Return }
+    ensures found { IfOk result (λ f. IfSome f (λ x. Simple limit names.now (token.now ∷ tokens.now) (form_of x.0) x.1.now)) }
+    ensures only { (form : Form) (rest : Items Token) → Simple limit names.now (token.now ∷ tokens.now) form rest → IfOk result (λ f. IsSomeAnd f (λ x. (form_of x.0 ≡ form) × (x.1.now ≡ rest))) }
+    ensures shorter { IfOk result (λ f. IfSome f (λ x. length x.1.now < length tokens.now)) }
 {
-    match closed_expression(alloc, limit, names, pieces)? {
+    match closed_expression(alloc, limit, names, tokens)? {
         None => Ok(None),
         Some((value, rest)) => {
-            let at = piece.token.place;
+            let at = token.place;
             Ok(Some((Statement::Return { at, value }, rest)))
         }
     }
@@ -293,19 +293,19 @@ fn simple<'a>(
     alloc: Global,
     limit: usize,
     names: &Names,
-    pieces: &'a [Piece],
-) -> Result<Option<(Statement, &'a [Piece])>, NoMemory>
+    tokens: &'a [Token],
+) -> Result<Option<(Statement, &'a [Token])>, NoMemory>
     requires { length names.now ≤ 4294967296 }
-    ensures found { IfOk result (λ f. IfSome f (λ x. Simple limit names.now pieces.now (form_of x.0) x.1.now)) }
-    ensures only { (form : Form) (rest : Items Piece) → Simple limit names.now pieces.now form rest → IfOk result (λ f. IsSomeAnd f (λ x. (form_of x.0 ≡ form) × (x.1.now ≡ rest))) }
-    ensures shorter { IfOk result (λ f. IfSome f (λ x. length x.1.now < length pieces.now)) }
+    ensures found { IfOk result (λ f. IfSome f (λ x. Simple limit names.now tokens.now (form_of x.0) x.1.now)) }
+    ensures only { (form : Form) (rest : Items Token) → Simple limit names.now tokens.now form rest → IfOk result (λ f. IsSomeAnd f (λ x. (form_of x.0 ≡ form) × (x.1.now ≡ rest))) }
+    ensures shorter { IfOk result (λ f. IfSome f (λ x. length x.1.now < length tokens.now)) }
 {
-    let Some((piece, rest)) = first(pieces) else {
+    let Some((token, rest)) = first(tokens) else {
         return Ok(None);
     };
-    match terminal_of(piece) {
-        Terminal::Name => assignment(alloc, limit, names, piece, rest),
-        Terminal::Return => returned(alloc, limit, names, piece, rest),
+    match terminal_of(token) {
+        Terminal::Name => assignment(alloc, limit, names, token, rest),
+        Terminal::Return => returned(alloc, limit, names, token, rest),
         _ => Ok(None),
     }
 }
@@ -317,19 +317,19 @@ pub(crate) fn statement<'a>(
     limit: usize,
     names: &mut Names,
     awaits: Awaits,
-    pieces: &'a [Piece],
-) -> Result<Option<(Statement, Awaits, &'a [Piece])>, NoMemory>
+    tokens: &'a [Token],
+) -> Result<Option<(Statement, Awaits, &'a [Token])>, NoMemory>
     requires { length names.old < 4294967296 }
-    ensures found { IfOk result (λ f. IfSome f (λ x. Reading limit function.now names.old awaits pieces.now (form_of x.0) x.1 names.new x.2.now)) }
-    ensures only { (form : Form) (next : Awaits) (then : NamesSoFar) (rest : Items Piece) → Reading limit function.now names.old awaits pieces.now form next then rest → IfOk result (λ f. IsSomeAnd f (λ x. (form_of x.0 ≡ form) × (x.1 ≡ next) × (names.new ≡ then) × (x.2.now ≡ rest))) }
-    ensures shorter { IfOk result (λ f. IfSome f (λ x. length x.2.now < length pieces.now)) }
+    ensures found { IfOk result (λ f. IfSome f (λ x. Reading limit function.now names.old awaits tokens.now (form_of x.0) x.1 names.new x.2.now)) }
+    ensures only { (form : Form) (next : Awaits) (then : NamesSoFar) (rest : Items Token) → Reading limit function.now names.old awaits tokens.now form next then rest → IfOk result (λ f. IsSomeAnd f (λ x. (form_of x.0 ≡ form) × (x.1 ≡ next) × (names.new ≡ then) × (x.2.now ≡ rest))) }
+    ensures shorter { IfOk result (λ f. IfSome f (λ x. length x.2.now < length tokens.now)) }
     ensures grown { IfOk result (λ _. length names.new ≤ length names.old + 1) }
 {
     match awaits {
-        Awaits::Declarator => declaration(alloc, function, limit, names, pieces),
-        Awaits::Statement => match after_terminal(Terminal::Int, pieces) {
+        Awaits::Declarator => declaration(alloc, function, limit, names, tokens),
+        Awaits::Statement => match after_terminal(Terminal::Int, tokens) {
             Some(rest) => declaration(alloc, function, limit, names, rest),
-            None => match simple(alloc, limit, names, pieces)? {
+            None => match simple(alloc, limit, names, tokens)? {
                 None => Ok(None),
                 Some((statement, rest)) => Ok(Some((statement, Awaits::Statement, rest))),
             },

@@ -1,13 +1,13 @@
-//! What a piece is to the grammar of a first text.
+//! What a token is to the grammar of a first text.
 ghost use Rattle.std.specs.Prelude.{◌≡◌, [], ◌∷◌, MatchOption};
 ghost use Rattle.cx_first.specs.Terminals as meaning;
 ghost use Rattle.cx_first.specs.Descent.{TerminalAt, NoTerminal};
 
 use crate::keywords::{equals, is_keyword};
-use cx_lex::{Piece, number_value};
-use cx_tokens::Kind;
+use crate::number::number_value;
+use cx_tokens::{Kind, Token};
 
-/// The terminal of a piece: all that the grammar asks of it but its text and its place.
+/// The terminal of a token: all that the grammar asks of it but its text and its place.
 #[derive(Clone, Copy, Debug, PartialEq, Eq)]
 pub enum Terminal {
     /// `int`
@@ -42,7 +42,7 @@ pub enum Terminal {
     Star,
     /// `/`
     Slash,
-    /// No piece of a first text.
+    /// No token of a first text.
     Foreign,
 }
 
@@ -105,13 +105,13 @@ fn number(text: &[u8]) -> Terminal
     }
 }
 
-/// The terminal of a piece.
+/// The terminal of a token.
 #[tactic(auto, unfolding(crate::specs::Terminals::terminal))]
-pub(crate) fn terminal_of(piece: &Piece) -> Terminal
-    ensures { result ≡ meaning.terminal piece.now }
+pub(crate) fn terminal_of(token: &Token) -> Terminal
+    ensures { result ≡ meaning.terminal token.now }
 {
-    let text = piece.token.text.as_slice();
-    match piece.token.kind {
+    let text = token.text.as_slice();
+    match token.kind {
         Kind::Name => word(text),
         Kind::Number => number(text),
         Kind::Punct => mark(text),
@@ -120,22 +120,22 @@ pub(crate) fn terminal_of(piece: &Piece) -> Terminal
     }
 }
 
-/// The first piece, and those behind it.
-pub(crate) fn first<'a>(pieces: &'a [Piece]) -> Option<(&'a Piece, &'a [Piece])>
-    ensures { MatchOption result (pieces.now ≡ []) (λ x. pieces.now ≡ x.0.now ∷ x.1.now) }
+/// The first token, and those behind it.
+pub(crate) fn first<'a>(tokens: &'a [Token]) -> Option<(&'a Token, &'a [Token])>
+    ensures { MatchOption result (tokens.now ≡ []) (λ x. tokens.now ≡ x.0.now ∷ x.1.now) }
 {
-    match pieces {
+    match tokens {
         [] => None,
-        [piece, rest @ ..] => Some((piece, rest)),
+        [token, rest @ ..] => Some((token, rest)),
     }
 }
 
-/// What stands behind a piece of this terminal.
-pub(crate) fn after_terminal<'a>(wanted: Terminal, pieces: &'a [Piece]) -> Option<&'a [Piece]>
-    ensures { MatchOption result (NoTerminal wanted pieces.now) (λ rest. TerminalAt wanted pieces.now rest.now) }
+/// What stands behind a token of this terminal.
+pub(crate) fn after_terminal<'a>(wanted: Terminal, tokens: &'a [Token]) -> Option<&'a [Token]>
+    ensures { MatchOption result (NoTerminal wanted tokens.now) (λ rest. TerminalAt wanted tokens.now rest.now) }
 {
-    let (piece, rest) = first(pieces)?;
-    if terminal_of(piece) == wanted {
+    let (token, rest) = first(tokens)?;
+    if terminal_of(token) == wanted {
         Some(rest)
     } else {
         None

@@ -4,8 +4,8 @@ ghost use Rattle.cx_first.specs.Tree.{source_of};
 ghost use Rattle.cx_first.specs.Runs.{IsNumbered};
 
 use crate::{Expr, FirstText, Operator, Statement, read, run};
-use cx_base::NoMemory;
-use cx_lex::lex_first;
+use cx_base::{List, NoMemory};
+use cx_lex::lex;
 use std::alloc::{AllocError, Global};
 
 /// Texts, with their statements where they are first texts: a variable by its index, an operation
@@ -287,12 +287,16 @@ fn read_text(alloc: Global, text: &str) -> Result<Option<FirstText>, NoMemory>
     requires { length text.now < 4294967295 }
     ensures { IfOk result (λ f. IfSome f (λ t. IsNumbered (source_of t))) }
 {
-    let Some(pieces) = lex_first(alloc, text.as_bytes())? else {
+    let Ok(lexed) = lex(alloc, text.as_bytes(), 0) else {
         return Ok(None);
     };
-    let pieces = pieces.as_slice();
-    if pieces.len() < 4_000_000 {
-        read(alloc, pieces)
+    let mut tokens = List::new(alloc);
+    for piece in lexed.pieces.as_slice() {
+        tokens.push(piece.token.copy()?)?;
+    }
+    let tokens = tokens.as_slice();
+    if tokens.len() < 4_000_000 {
+        read(alloc, tokens)
     } else {
         Ok(None)
     }

@@ -327,7 +327,7 @@ punct_complete : (c : Character) (xs rest : List Character) → Contains punctua
     → plain_piece c (xs ++ rest) ≡ found (piece Punct (c ∷ xs)) rest
 punct_complete c xs rest k l =
     let w = punctuator_no_word c.code (bytes_of xs) k in let q = punctuator_no_number c.code (bytes_of xs) k in
-    by_mark c (xs ++ rest) (sym (quote_one_of c.code) ∙ q.0) (no_name c.code w.0) (no_number c.code (digit_first (bytes_of (xs ++ rest))) (no_digit c.code w.0) (punct_dot c xs rest k l))
+    by_mark c (xs ++ rest) (sym (quote_one_of c.code) ∙ q.0) (no_name c.code w) (no_number c.code (digit_first (bytes_of (xs ++ rest))) (no_digit c.code w) (punct_dot c xs rest k l))
     ∙ punct_by c xs rest (longest table c (xs ++ rest)) k l refl
 
 -- other bytes

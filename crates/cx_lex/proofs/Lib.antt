@@ -2,8 +2,6 @@ pub mod AnswerLaws
 pub mod Barren
 pub mod Behinds
 pub mod Blocks
-pub mod CutLaws
-pub mod Digits
 pub mod ElementComplete
 pub mod ElementSound
 mod Examples
@@ -11,8 +9,6 @@ pub mod FormLaws
 pub mod Found
 pub mod FrontLaws
 pub mod GoesLaws
-pub mod Going
-pub mod Joined
 pub mod LongestLaws
 pub mod MemberLaws
 pub mod OnePiece
@@ -23,7 +19,6 @@ pub mod Plain
 pub mod Quotes
 pub mod Runs
 pub mod Scans
-pub mod Sound
 pub mod Steps
 mod TextExamples
 pub mod Texts

@@ -35,7 +35,7 @@ no_longer_name Name b bs d ds n w t = both_ways (is_word d) w (and_parts (is_wor
 no_longer_name Number b bs d ds n w t =
     ⊎_elim (λ (u : BeginsWithDigit (b ∷ (bs ++ d ∷ ds))). name_no_digit b n u.0)
     (λ (u : (rest : List ℕ) × (b ∷ (bs ++ d ∷ ds) ≡ codes "." ++ rest) × BeginsWithDigit rest). name_no_dot b n (head_same b 46 _ _ u.1)) t
-no_longer_name Punct b bs d ds n w t = both_ways (is_word b) (punctuator_no_word b (bs ++ d ∷ ds) t).0 (nondigit_word b n)
+no_longer_name Punct b bs d ds n w t = both_ways (is_word b) (punctuator_no_word b (bs ++ d ∷ ds) t) (nondigit_word b n)
 no_longer_name _ b bs d ds n w t = t
 
 pub name_longest : (b : ℕ) (bs rest : List ℕ) → is_nondigit b ≡ true → NoWord rest → IsLongest (b ∷ bs) rest
@@ -216,7 +216,7 @@ no_longer_number Number b bs d ds n w t = let p = number_parts (b ∷ (bs ++ d �
     moved : (b c : ℕ) (bs cs : List ℕ) → b ∷ bs ≡ c ∷ cs → GoesOn c cs → GoesOn b bs
     moved b c bs cs e g = subst (λ x. GoesOn x bs) (sym (head_same b c bs cs e)) (subst (GoesOn c) (sym (tail_same b c bs cs e)) g)
 no_longer_number Punct b bs d ds n w t =
-    ⊎_elim (λ (u : is_digit b ≡ true). both_ways (is_word b) (punctuator_no_word b (bs ++ d ∷ ds) t).0 (digit_word b u))
+    ⊎_elim (λ (u : is_digit b ≡ true). both_ways (is_word b) (punctuator_no_word b (bs ++ d ∷ ds) t) (digit_word b u))
     (λ (u : ((b == 46) && digit_first bs) ≡ true).
     let p = and_parts (b == 46) (digit_first bs) u in
     both_ways ((b == 46) && digit_first (bs ++ d ∷ ds)) (punctuator_no_number b (bs ++ d ∷ ds) t).1 (and_from _ _ p.0 (first_more bs d ds p.1))) (or_cases _ _ n)

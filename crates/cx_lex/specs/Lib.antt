@@ -5,5 +5,4 @@ pub mod Elements
 pub mod Lexing
 pub mod Faults
 pub mod WholeText
-pub mod FirstPieces
 pub mod Shapes

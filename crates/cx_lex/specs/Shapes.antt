@@ -3,4 +3,3 @@ pub mod Quotes
 pub mod Scanning
 pub mod Fronts
 pub mod After
-pub mod FirstCut

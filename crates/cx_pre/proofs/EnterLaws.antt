@@ -10,13 +10,13 @@ use Rattle.cx_lines.specs.declared.nesting.NestingFault.{NestingFault}
 use Rattle.cx_directive.specs.declared.include.Target.{Target}
 use Rattle.cx_directive.specs.Operands.{operands, target_of, tokens_of}
 use Rattle.cx_pre.specs.declared.fault.PreFault.TheVariants.{BadDirective, Deep}
-use Rattle.cx_pre.specs.declared.shelf.Shelf.{Shelf}
+use Rattle.cx_shelf.specs.declared.shelf.Shelf.{Shelf}
 use Rattle.cx_pre.specs.declared.stop.Stop.{Stop}
 use Rattle.cx_pre.specs.declared.stop.Stop.TheVariants.{Fault, NoMemory}
 use Rattle.cx_pre.specs.Choosing.{Comes, Does, Enters, at_end, back_in, directive, directive_stops, ends, enters, extent_in, includes_nothing, nowhere, once_more, too_deep}
-use Rattle.cx_pre.specs.Searches.{found}
+use Rattle.cx_shelf.specs.Searches.{found}
 use Rattle.cx_pre.specs.Shapes.Gives.{Gives, OnFault}
-use Rattle.cx_pre.specs.Shelves.{path_of}
+use Rattle.cx_shelf.specs.Shelves.{path_of}
 use Rattle.cx_pre.specs.Stages.{Outcome, Stage, is_once, stopped, through, with_missing}
 use Rattle.cx_pre.specs.Starts.{in_file}
 

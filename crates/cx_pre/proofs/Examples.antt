@@ -18,7 +18,7 @@ use Rattle.cx_directive.specs.Defines.{defined_by, definition_after, object_like
 use Rattle.cx_directive.specs.Operands.{spelled, target_of}
 use Rattle.cx_pre.specs.declared.fault.PreFault.TheVariants.{BadDirective, ErrorDirective, StrayElse, UnclosedGroup, UnclosedLiteral}
 use Rattle.cx_pre.specs.Choosing.{after_directive, at_end}
-use Rattle.cx_pre.specs.Includes.{includes_of}
+use Rattle.cx_shelf.specs.Includes.{includes_of}
 use Rattle.cx_pre.specs.Stages.{Stage, answer_of, is_once, stopped, through, unclosed_at}
 
 place_at : ℕ → ℕ → Place

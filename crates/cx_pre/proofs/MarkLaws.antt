@@ -14,10 +14,10 @@ use Rattle.cx_lines.specs.declared.nesting.NestingFault.{NestingFault}
 use Rattle.cx_lines.specs.declared.nesting.NestingFault.TheVariants.{Stray}
 use Rattle.cx_directive.specs.Defines.{defined_by}
 use Rattle.cx_directive.specs.Operands.{name_of, operands}
-use Rattle.cx_pre.specs.declared.shelf.Shelf.{Shelf}
+use Rattle.cx_shelf.specs.declared.shelf.Shelf.{Shelf}
 use Rattle.cx_pre.specs.Choosing.{Comes, Does, Enters, after_define, after_directive, after_undef, alone, at_end, back_in, directive, directive_stops, ends, enters, group_ends, includes_nothing, nowhere, once_more, section, section_stops, text, text_stops, too_deep}
 use Rattle.cx_pre.specs.Conditions.{Choice, Chooses, another, chosen, no_decision, none_left, this_one}
-use Rattle.cx_pre.specs.Shelves.{pieces_of}
+use Rattle.cx_shelf.specs.Shelves.{pieces_of}
 use Rattle.cx_pre.specs.Stages.{Outcome, Stage, is_once, stopped, through, with_laid, with_once}
 use Rattle.cx_pre.proofs.KindLaws.{is_a_directive, sort_of}
 use Rattle.cx_pre.proofs.OneLaws.{line_sort, rule_fits, rule_sort}

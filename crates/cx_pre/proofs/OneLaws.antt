@@ -12,12 +12,12 @@ use Rattle.cx_lines.specs.declared.nesting.NestingFault.{NestingFault}
 use Rattle.cx_directive.specs.declared.include.Target.{Target}
 use Rattle.cx_directive.specs.Answers.{is_defined}
 use Rattle.cx_pre.specs.declared.fault.PreFault.TheVariants.{Deep, Macro}
-use Rattle.cx_pre.specs.declared.shelf.Config.{Config}
-use Rattle.cx_pre.specs.declared.shelf.Shelf.{Shelf}
+use Rattle.cx_pre.specs.declared.config.Config.{Config}
+use Rattle.cx_shelf.specs.declared.shelf.Shelf.{Shelf}
 use Rattle.cx_pre.specs.Choosing.{Comes, Does, Enters, IsChosen, alone, back_in, directive, directive_stops, ends, enters, group_ends, include_depth, includes_nothing, is_chosen, nowhere, once_more, section, section_stops, stops, text, text_stops, too_deep}
 use Rattle.cx_pre.specs.Conditions.{Choice, Chooses, Decides, Decision, HasValue, another, chosen, decided, has, has_none, is_nonzero, name_is, no_condition, no_decision, no_name, no_value, none_left, not_replaced, said_of, this_one, value_is}
-use Rattle.cx_pre.specs.Searches.{found}
-use Rattle.cx_pre.specs.Shelves.{path_of}
+use Rattle.cx_shelf.specs.Searches.{found}
+use Rattle.cx_shelf.specs.Shelves.{path_of}
 use Rattle.cx_pre.specs.Stages.{is_once, with_missing, Answer, Outcome, Stage, answer_of, first_stage, through, with_laid, with_text}
 use Rattle.cx_pre.specs.Starts.{IsStart}
 use Rattle.cx_pre.proofs.KindLaws.{Sort, alone_sort, include_sort, is_a_directive, is_a_part, is_a_text, is_an_opening, name_or_none, not_alone, opening_sort, part_sort, sort_of, text_sort, value_or_name, value_or_none}

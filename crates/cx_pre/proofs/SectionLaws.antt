@@ -21,11 +21,11 @@ use Rattle.cx_lines.specs.declared.nesting.NestingFault.{NestingFault}
 use Rattle.cx_directive.specs.Answers.{is_defined}
 use Rattle.cx_directive.specs.Operands.{name_of, operands, tokens_of}
 use Rattle.cx_pre.proofs.StepLaws.{end_leads, part_leads}
-use Rattle.cx_pre.specs.declared.shelf.Shelf.{Shelf}
+use Rattle.cx_shelf.specs.declared.shelf.Shelf.{Shelf}
 use Rattle.cx_pre.specs.Choosing.{Comes, Enters, ends, section, text, text_tokens}
 use Rattle.cx_pre.specs.Conditions.{Chooses, Decides, another, decided, name_is, no_condition, this_one, is_unconditional}
 use Rattle.cx_pre.specs.Conditions as Conditions
-use Rattle.cx_pre.specs.Shelves.{pieces_of}
+use Rattle.cx_shelf.specs.Shelves.{pieces_of}
 use Rattle.cx_pre.specs.Stages.{Outcome, Stage, through, with_laid, with_text}
 use Rattle.cx_pre.specs.Starts.{in_file}
 

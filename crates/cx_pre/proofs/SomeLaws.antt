@@ -19,12 +19,12 @@ use Rattle.cx_directive.specs.Answers.{answered, is_defined}
 use Rattle.cx_directive.specs.Defines.{defined_by}
 use Rattle.cx_directive.specs.Operands.{name_of, operands, spelled, target_of}
 use Rattle.cx_pre.specs.declared.fault.PreFault.TheVariants.{BadCondition, BadDirective, Deep, ErrorDirective, Macro}
-use Rattle.cx_pre.specs.declared.shelf.Config.{Config}
-use Rattle.cx_pre.specs.declared.shelf.Shelf.{Shelf}
+use Rattle.cx_pre.specs.declared.config.Config.{Config}
+use Rattle.cx_shelf.specs.declared.shelf.Shelf.{Shelf}
 use Rattle.cx_pre.specs.Choosing.{Comes, Does, IsChosen, after_define, after_directive, after_undef, alone, at_end, back_in, directive, directive_stops, ends, enters, extent_in, group_ends, include_depth, includes_nothing, is_chosen, nowhere, once_more, section, section_stops, stops, text, text_stops, text_tokens, too_deep}
 use Rattle.cx_pre.specs.Conditions.{Choice, Chooses, Decides, Decision, HasValue, another, asks_value, chosen, decided, is_nonzero, is_unconditional, name_is, no_choice, no_condition, no_decision, no_name, no_value, none_left, not_replaced, said_of, this_one, undecided, value_is}
-use Rattle.cx_pre.specs.Searches.{found}
-use Rattle.cx_pre.specs.Shelves.{path_of}
+use Rattle.cx_shelf.specs.Searches.{found}
+use Rattle.cx_shelf.specs.Shelves.{path_of}
 use Rattle.cx_pre.specs.Stages.{Answer, Outcome, Stage, answer_of, first_stage, is_once, stopped, through, with_laid, with_missing, with_once, with_text}
 use Rattle.cx_pre.specs.Starts.{IsStart, in_file}
 use Rattle.cx_pre.proofs.KindLaws.{Sorted, by_directive, by_opening, by_part, by_text, is_a_directive, sort_of, sorted}

@@ -17,7 +17,7 @@ use Rattle.cx_macro.specs.Expansion.{line_name}
 use Rattle.cx_macro.specs.Macros.{Definition, IsDefinition, Table, no_macros}
 use Rattle.cx_directive.specs.Defines.{object_like}
 use Rattle.cx_directive.specs.Operands.{tokens_of}
-use Rattle.cx_pre.specs.declared.shelf.Config.{Config}
+use Rattle.cx_pre.specs.declared.config.Config.{Config}
 use Rattle.cx_pre.specs.Starts.{AreDefined, HasTokens, IsStart, begins_with_lf, no_more, one_line, one_more, one_token, open_comment, standard_macros, start, too_many, whole, with_definition, with_names}
 use Rattle.cx_pre.specs.Shapes.Starting.{AreFront, AreOfLine, IsMade}
 use Rattle.cx_pre.proofs.FrontLaws.{FaultFront, fault_front}

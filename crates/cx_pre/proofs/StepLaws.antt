@@ -10,7 +10,7 @@ use Rattle.cx_lines.proofs.NestLaws.{end_opens_not, part_closes_not, part_opens_
 use Rattle.cx_lines.specs.Nesting.{after_section}
 use Rattle.cx_pre.specs.declared.fault.PreFault.{PreFault}
 use Rattle.cx_pre.specs.declared.fault.PreFault.TheVariants.{Macro}
-use Rattle.cx_pre.specs.declared.shelf.Shelf.{Shelf}
+use Rattle.cx_shelf.specs.declared.shelf.Shelf.{Shelf}
 use Rattle.cx_pre.specs.declared.stop.Stop.{Stop}
 use Rattle.cx_pre.specs.declared.stop.Stop.TheVariants.{Fault, NoMemory}
 use Rattle.cx_pre.specs.Choosing.{Comes, after_directive, alone, directive, directive_stops, group_ends, section, section_stops, text, text_stops, text_tokens}

@@ -2,8 +2,8 @@
 use Rattle.std.proofs.Common.{◌≡◌, ℕ, sym, subst, Err}
 use Rattle.cx_macro.specs.Macros.{Table}
 use Rattle.cx_pre.specs.declared.fault.PreFault.{PreFault}
-use Rattle.cx_pre.specs.declared.shelf.Config.{Config}
-use Rattle.cx_pre.specs.declared.shelf.Shelf.{Shelf}
+use Rattle.cx_pre.specs.declared.config.Config.{Config}
+use Rattle.cx_shelf.specs.declared.shelf.Shelf.{Shelf}
 use Rattle.cx_pre.specs.Choosing.{Enters, IsChosen, include_depth, is_chosen}
 use Rattle.cx_pre.specs.Stages.{Answer, Outcome, Stage, answer_of, first_stage, stopped}
 use Rattle.cx_pre.specs.Starts.{IsStart}

@@ -19,11 +19,11 @@ use Rattle.cx_directive.specs.Defines.{defined_by}
 use Rattle.cx_directive.specs.Operands.{name_of, operands, spelled, target_of, tokens_of}
 use Rattle.cx_pre.specs.declared.fault.PreFault.{PreFault}
 use Rattle.cx_pre.specs.declared.fault.PreFault.TheVariants.{BadDirective, Deep, ErrorDirective, Macro, StrayElse, UnclosedGroup}
-use Rattle.cx_pre.specs.declared.shelf.Config.{Config}
-use Rattle.cx_pre.specs.declared.shelf.Shelf.{Shelf}
+use Rattle.cx_pre.specs.declared.config.Config.{Config}
+use Rattle.cx_shelf.specs.declared.shelf.Shelf.{Shelf}
 use Rattle.cx_pre.specs.Conditions.{Chooses, chosen, no_choice}
-use Rattle.cx_pre.specs.Searches.{found}
-use Rattle.cx_pre.specs.Shelves.{path_of, pieces_of}
+use Rattle.cx_shelf.specs.Searches.{found}
+use Rattle.cx_shelf.specs.Shelves.{path_of, pieces_of}
 use Rattle.cx_pre.specs.Stages.{Answer, Outcome, Stage, answer_of, first_stage, is_once, stopped, through, with_macros, with_missing, with_once, with_text}
 use Rattle.cx_pre.specs.Starts.{IsStart, in_file, with_definition, without_definition}
 

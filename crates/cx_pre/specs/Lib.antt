@@ -1,9 +1,5 @@
 pub mod Choosing
-pub mod Closures
 pub mod Conditions
-pub mod Includes
-pub mod Searches
-pub mod Shelves
 pub mod Shapes
 pub mod Stages
 pub mod Starts

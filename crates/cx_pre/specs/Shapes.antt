@@ -1,4 +1,3 @@
 -- What the code answers, as functions and relations of its own shape.
 pub mod Gives
-pub mod Searching
 pub mod Starting

@@ -10,7 +10,7 @@ use Rattle.cx_directive.specs.declared.include.IncludeName.{IncludeName}
 use Rattle.cx_pre.specs.declared.chosen.Chosen.{Chosen}
 use Rattle.cx_pre.specs.declared.fault.PreFault.{PreFault}
 use Rattle.cx_pre.specs.declared.fault.PreFault.TheVariants.{UnclosedLiteral}
-use Rattle.cx_pre.specs.declared.shelf.Shelf.{Shelf}
+use Rattle.cx_shelf.specs.declared.shelf.Shelf.{Shelf}
 
 -- The macros as they stand; how many tokens were laid; the tokens chosen; the includes met that
 -- lead to no file; and of each file whether a `pragma once` was met in it.

@@ -13,9 +13,9 @@ use Rattle.cx_macro.specs.Expansion.{line_name}
 use Rattle.cx_macro.specs.Macros.{Definition, Table, no_macros}
 use Rattle.cx_directive.specs.Defines.{object_like}
 use Rattle.cx_directive.specs.Operands.{tokens_of}
-use Rattle.cx_pre.specs.declared.shelf.Config.{Config}
-use Rattle.cx_pre.specs.declared.shelf.Shelf.{Shelf}
-use Rattle.cx_pre.specs.Shelves.{path_of}
+use Rattle.cx_pre.specs.declared.config.Config.{Config}
+use Rattle.cx_shelf.specs.declared.shelf.Shelf.{Shelf}
+use Rattle.cx_shelf.specs.Shelves.{path_of}
 use Rattle.cx_pre.specs.Stages.{Stage, with_macros}
 
 abbrev pub file_name : List ℕ

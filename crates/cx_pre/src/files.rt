@@ -5,16 +5,15 @@ ghost use Rattle.cx_lines.specs.declared.kind.LineKind.TheVariants as line_kind;
 ghost use Rattle.cx_lines.specs.Lines.{lines_of};
 ghost use Rattle.cx_pre.specs.Choosing.{Does, Enters, at_end};
 ghost use Rattle.cx_pre.specs.Shapes.Gives.{Gives, Leads, OnFault, Stops};
-ghost use Rattle.cx_pre.specs.Shapes.Searching.{AreNumbers};
 
-use crate::context::{Context, path_of, pieces_of};
+use crate::context::Context;
 use crate::fault::PreFault;
-use crate::search::found;
 use crate::stage::Stage;
 use crate::stop::Stop;
 use cx_directive::{operands, target_of};
 use cx_lex::Piece;
 use cx_lines::{LineKind, NestingFault, after_section, extent_of, first_line, kind_of, place_of};
+use cx_shelf::{found, path_of, pieces_of};
 
 /// The end of the lines of a file that nest.
 fn end_of(stage: &mut Stage, fault: Option<NestingFault>) -> Result<(), Stop>
@@ -77,11 +76,10 @@ pub(crate) fn go_through(
     depth: u32,
     file: usize,
 ) -> Result<(), Stop>
-    requires { AreNumbers context.now.paths.now context.now.shelf.now }
     ensures { Gives (Enters context.now.shelf.now depth file stage.old) stage.new result }
 {
     stage.enter(context, file)?;
-    let extent = extent_of(context.alloc, pieces_of(context.shelf, file))?;
+    let extent = extent_of(context.alloc, pieces_of(context.shelf.shelf(), file))?;
     let mut lines = extent.front;
     while let Some((line, rest)) = first_line(lines) {
         if kind_of(line) == LineKind::Include {
@@ -107,7 +105,6 @@ fn include(
     line: &[Piece],
 ) -> Result<(), Stop>
     requires kind { kind_of line.now ≡ line_kind.Include }
-    requires paths { AreNumbers context.now.paths.now context.now.shelf.now }
     ensures { Gives (Does context.now.shelf.now depth file stage.old line.now) stage.new result }
 {
     let Some(target) = target_of(context.alloc, operands(line))? else {
@@ -116,15 +113,8 @@ fn include(
     let Some(left) = depth.checked_sub(1) else {
         return Err(Stop::Fault(PreFault::Deep { at: target.name.at }));
     };
-    let includer = path_of(context.shelf, file);
-    let Some(other) = found(
-        context.alloc,
-        context.paths,
-        context.shelf,
-        includer,
-        &target,
-    )?
-    else {
+    let includer = path_of(context.shelf.shelf(), file);
+    let Some(other) = found(context.alloc, context.shelf, includer, &target)? else {
         return Ok(stage.miss(target.name)?);
     };
     if stage.is_once(other) {

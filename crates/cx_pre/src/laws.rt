@@ -13,13 +13,13 @@ ghost use Rattle.cx_macro.specs.Expansion.{ExpandsList, expanded, most_laid};
 ghost use Rattle.cx_directive.specs.declared.include.Target.{Target};
 ghost use Rattle.cx_directive.specs.Answers.{is_defined};
 ghost use Rattle.cx_directive.specs.Operands.{name_of, operands, target_of, tokens_of};
-ghost use Rattle.cx_pre.specs.declared.shelf.Config.{Config};
-ghost use Rattle.cx_pre.specs.declared.shelf.Shelf.{Shelf};
+ghost use Rattle.cx_pre.specs.declared.config.Config.{Config};
+ghost use Rattle.cx_shelf.specs.declared.shelf.Shelf.{Shelf};
 ghost use Rattle.cx_pre.specs.Choosing.{Comes, Does, Enters, IsChosen};
-ghost use Rattle.cx_pre.specs.Closures.{closure_of, included};
+ghost use Rattle.cx_shelf.specs.Closures.{closure_of, included};
 ghost use Rattle.cx_pre.specs.Conditions.{Choice, Chooses, Decides, Decision, decided};
-ghost use Rattle.cx_pre.specs.Searches.{found};
-ghost use Rattle.cx_pre.specs.Shelves.{path_of, pieces_of};
+ghost use Rattle.cx_shelf.specs.Searches.{found};
+ghost use Rattle.cx_shelf.specs.Shelves.{path_of, pieces_of};
 ghost use Rattle.cx_pre.specs.Stages.{Answer, Outcome, Stage, is_once, through, with_laid, with_text};
 ghost use Rattle.cx_pre.specs.Starts.{in_file};
 
@@ -123,27 +123,4 @@ pub fn once_is_enough()
         (target : Target) → kind_of line ≡ Include → target_of (operands line) ≡ Some target
         → found shelf (path_of shelf file) target ≡ Some other → is_once other s ≡ true
         → Does shelf (depth + 1) file s line (through s) }
-{}
-
-/// The first file of a unit is its own.
-pub fn closure_begins_with_its_unit()
-    ensures { (shelf : Shelf) (unit : ℕ) → slice_get (closure_of shelf unit) 0 ≡ Some unit }
-{}
-
-/// No file stands twice among those of a unit.
-pub fn each_file_stands_once()
-    ensures { (shelf : Shelf) (unit : ℕ) → IsDistinct nat_eq (closure_of shelf unit) }
-{}
-
-/// What a file of a unit includes is a file of the unit.
-pub fn closure_is_closed()
-    ensures { (shelf : Shelf) (unit file other : ℕ) → Contains (closure_of shelf unit) file
-        → Contains (included shelf file) other → Contains (closure_of shelf unit) other }
-{}
-
-/// Each file of a unit is its own, or one of the files before it includes it.
-pub fn each_file_is_reached()
-    ensures { (shelf : Shelf) (unit file : ℕ) (front back : List ℕ)
-        → closure_of shelf unit ≡ front ++ file ∷ back
-        → (file ≡ unit) ⊎ Contains (flat_map (included shelf) front) file }
 {}

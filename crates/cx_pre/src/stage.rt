@@ -15,9 +15,9 @@ ghost use Rattle.cx_pre.specs.Stages.{answer_by, answer_of, first_stage, is_once
 ghost use Rattle.cx_pre.specs.Starts.{IsStart, in_file};
 
 use crate::chosen::Chosen;
-use crate::context::{Context, path_of};
+use crate::config::Config;
+use crate::context::Context;
 use crate::fault::PreFault;
-use crate::shelf::Config;
 use crate::starts::{define, enter_file, start, undefine};
 use crate::stop::{Stop, stop_of};
 use cx_base::{List, NoMemory, Place};
@@ -28,6 +28,7 @@ use cx_lines::{
     LineKind, first_line, from_part, front_text, kind_of, lines_are_the_pieces, place_of,
 };
 use cx_macro::{Macros, the_bound_is_met};
+use cx_shelf::path_of;
 use cx_tokens::{Kind, Token, TokenList};
 use std::alloc::Global;
 use std::marker::Model;
@@ -90,7 +91,7 @@ impl Stage {
     {
         let alloc = context.alloc;
         let macros = start(alloc, context.key, config)?;
-        let once = no_marks(alloc, context.shelf.files.len())?;
+        let once = no_marks(alloc, context.shelf.shelf().files.len())?;
         Ok(Stage {
             macros,
             laid: 0,
@@ -107,7 +108,7 @@ impl Stage {
         enter_file(
             context.alloc,
             &mut self.macros,
-            path_of(context.shelf, file),
+            path_of(context.shelf.shelf(), file),
         )
     }
 

@@ -1,5 +1,5 @@
 //! The macros before a unit's text.
-use crate::shelf::Config;
+use crate::config::Config;
 use crate::starts::{enter_file, start, undefine};
 use cx_base::{Define, List, NoMemory, Path, Text};
 use cx_lex::lex;

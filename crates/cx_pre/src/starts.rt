@@ -9,7 +9,7 @@ ghost use Rattle.cx_directive.specs.Operands.{tokens_of};
 ghost use Rattle.cx_pre.specs.Starts.{AreDefined, HasTokens, IsStart, begins_with_lf, escaped, file_macro, file_name, is_kept, one_line, one_token, standard_macros, with_definition, with_names, without_definition};
 ghost use Rattle.cx_pre.specs.Shapes.Starting.{AreFront, AreOfLine, IsMade};
 
-use crate::shelf::Config;
+use crate::config::Config;
 use cx_base::{Define, List, NoMemory, Place, SharedList, Text};
 use cx_directive::token_copies;
 use cx_lex::{LexFault, Piece, lex};

@@ -4,14 +4,14 @@ ghost use Rattle.cx_pre.specs.Choosing.{IsChosen};
 ghost use Rattle.cx_pre.specs.Stages.{Answer as answer, answer_by};
 
 use crate::chosen::Chosen;
+use crate::config::Config;
 use crate::context::Context;
 use crate::files::go_through;
 use crate::laws::one_answer;
-use crate::search::Paths;
-use crate::shelf::{Config, Shelf};
 use crate::stage::Stage;
 use crate::stop::Stop;
 use cx_base::NoMemory;
+use cx_shelf::IndexedShelf;
 use cx_table::NameKey;
 use std::alloc::Global;
 
@@ -21,11 +21,11 @@ const INCLUDE_DEPTH: u32 = 64;
 /// What is chosen of a unit, the file with that number, in a configuration: the tokens of the groups
 /// that are chosen, with the files that they include and with macros replaced; or the first fault in
 /// the order of the text. An unclosed quote among the tokens comes behind every other fault. The names
-/// of macros and the paths of files are hashed under this key, which the sources give.
+/// of macros are hashed under this key, which the sources give.
 pub fn preprocess(
     alloc: Global,
     key: NameKey,
-    shelf: &Shelf,
+    shelf: &IndexedShelf,
     unit: u32,
     config: &Config,
 ) -> Result<Chosen, NoMemory>
@@ -42,19 +42,13 @@ pub fn preprocess(
 fn chosen(
     alloc: Global,
     key: NameKey,
-    shelf: &Shelf,
+    shelf: &IndexedShelf,
     unit: u32,
     config: &Config,
 ) -> Result<Chosen, NoMemory>
     ensures { IfOk result (λ c. IsChosen shelf.now unit config.now (answer_by c)) }
 {
-    let paths = Paths::of(alloc, key, shelf)?;
-    let context = Context {
-        alloc,
-        key,
-        shelf,
-        paths: &paths,
-    };
+    let context = Context { alloc, key, shelf };
     let mut stage = Stage::new(&context, config)?;
     match go_through(&context, &mut stage, INCLUDE_DEPTH, unit as usize) {
         Ok(()) => stage.into_chosen(alloc),

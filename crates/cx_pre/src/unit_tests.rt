@@ -1,12 +1,13 @@
 //! What is chosen of units.
 use crate::chosen::Chosen;
+use crate::config::Config;
 use crate::fault::PreFault;
-use crate::shelf::{Config, Shelf, Shelved};
 use crate::unit::preprocess;
 use cx_base::{Define, List, NoMemory, Path, Place, Text};
 use cx_directive::IncludeName;
 use cx_lex::lex;
 use cx_macro::MacroFault;
+use cx_shelf::{IndexedShelf, Shelved};
 use cx_table::NameKey;
 use cx_tokens::TokenList;
 use std::alloc::{AllocError, Global};
@@ -349,12 +350,7 @@ const STANDARD: [(&str, &str); 5] = [
 ];
 
 /// The pieces of a file.
-pub(crate) fn shelved(
-    alloc: Global,
-    path: &str,
-    text: &str,
-    number: u32,
-) -> Result<Shelved, NoMemory> {
+fn shelved(alloc: Global, path: &str, text: &str, number: u32) -> Result<Shelved, NoMemory> {
     if text.len() >= 4_294_967_295 {
         return Err(NoMemory);
     }
@@ -365,18 +361,21 @@ pub(crate) fn shelved(
     Ok(Shelved { path, lexed })
 }
 
-/// Files as a shelf with the folders `i` and `j`.
-pub(crate) fn shelf_of(alloc: Global, files: &[(&str, &str)]) -> Result<Shelf, NoMemory> {
-    let mut shelf = Shelf {
-        folders: List::new(alloc),
-        files: List::new(alloc),
-    };
+/// A shelf of no files, with the folders `i` and `j`.
+fn no_files(alloc: Global) -> Result<IndexedShelf, NoMemory> {
+    let mut folders = List::new(alloc);
     for folder in ["i", "j"] {
-        shelf.folders.push(Path::from_str(alloc, folder)?)?;
+        folders.push(Path::from_str(alloc, folder)?)?;
     }
+    Ok(IndexedShelf::new(alloc, NameKey::of(b"shelf")).with_folders(folders))
+}
+
+/// Files as a shelf with the folders `i` and `j`.
+fn shelf_of(alloc: Global, files: &[(&str, &str)]) -> Result<IndexedShelf, NoMemory> {
+    let mut shelf = no_files(alloc)?;
     let mut number: u32 = 0;
     for (path, text) in files {
-        shelf.files.push(shelved(alloc, path, text, number)?)?;
+        shelf = shelf.with(shelved(alloc, path, text, number)?)?;
         number = number.saturating_add(1);
     }
     Ok(shelf)
@@ -453,7 +452,7 @@ fn push_name(alloc: Global, shown: &mut String, name: &IncludeName) -> Result<()
 }
 
 /// What is chosen of the first file.
-fn chosen(alloc: Global, shelf: &Shelf, config: &Config) -> Result<String, NoMemory> {
+fn chosen(alloc: Global, shelf: &IndexedShelf, config: &Config) -> Result<String, NoMemory> {
     let Chosen { tokens, missing } = preprocess(alloc, NameKey::of(b"unit"), shelf, 0, config)?;
     let mut shown = String::new(alloc);
     match tokens {
@@ -528,21 +527,16 @@ fn includes_are_joined(rt: HostRuntime) {
 }
 
 /// A unit, and so many headers of which each includes the next, but for the last.
-pub(crate) fn chain_of(alloc: Global, count: u32) -> Result<Shelf, NoMemory> {
+fn chain_of(alloc: Global, count: u32) -> Result<IndexedShelf, NoMemory> {
     let mut shelf = shelf_of(alloc, &[("a.c", "#include \"1.h\"\n")])?;
     for number in 1..count {
         let next = number.saturating_add(1);
         let path = format!(in alloc; "{number}.h")?;
         let text = format!(in alloc; "#include \"{next}.h\"\n")?;
-        shelf
-            .files
-            .push(shelved(alloc, path.as_str(), text.as_str(), number)?)?;
+        shelf = shelf.with(shelved(alloc, path.as_str(), text.as_str(), number)?)?;
     }
     let path = format!(in alloc; "{count}.h")?;
-    shelf
-        .files
-        .push(shelved(alloc, path.as_str(), "last\n", count)?)?;
-    Ok(shelf)
+    shelf.with(shelved(alloc, path.as_str(), "last\n", count)?)
 }
 
 #[test]

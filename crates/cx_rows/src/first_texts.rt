@@ -20,7 +20,7 @@ struct Found {
 }
 
 /// Texts whose run comes to its end.
-const QUIET: [&str; 12] = [
+const QUIET: [&str; 17] = [
     "",
     " \t\n",
     "int f(void) { }",
@@ -33,10 +33,15 @@ const QUIET: [&str; 12] = [
     "int f(void) { return -2147483647 - 1; }",
     "int f(void) { return 7 - 3 - 2 - 2 + 1 / (7 - 3 - 2 - 1); }",
     "int f(void) { return - - 1; }",
+    "int f(void) { return 1; }\r\n",
+    "int f(void) { return 1; } // end",
+    "/* 1 / 0 */ int f(void) { /* */ }",
+    "int f(void) <% %>",
+    "int f(vo\\\nid) { }",
 ];
 
 /// Texts whose run cannot go on, with the finding of the node where it stops.
-const FOUND: [Found; 21] = [
+const FOUND: [Found; 22] = [
     Found {
         text: "int f(void) {\nint x = 0;\nreturn 10 / x;\n}\n",
         found: "a.c:3:11: error: Division by zero. [zerodiv]\n",
@@ -44,6 +49,10 @@ const FOUND: [Found; 21] = [
     Found {
         text: "int f(void) {\n    int x = 0;\n    return 10 / x;\n}\n",
         found: "a.c:3:15: error: Division by zero. [zerodiv]\n",
+    },
+    Found {
+        text: "int f(void) { // x\nreturn 1 /* y\n */ / 0;\n}\n",
+        found: "a.c:3:5: error: Division by zero. [zerodiv]\n",
     },
     Found {
         text: "int f(void) { return 1/0; }",
@@ -124,12 +133,13 @@ const FOUND: [Found; 21] = [
 ];
 
 /// Texts that are no first texts.
-const OTHERS: [&str; 34] = [
+const OTHERS: [&str; 35] = [
     "?",
     "\u{e4}",
-    "int f(void) { return 1; }\r\n",
-    "int f(void) { return 1; } // end",
-    "int f(void) { /* */ }",
+    "int f(void) { return 1; }\r",
+    "int f(void) { /* }",
+    "int f(void) { 'x",
+    "#define x\n",
     "int f(void) { return --1; }",
     "int f(void) { int x = 1; return x++; }",
     "int f(void) { int x = 1; x += 1; return x; }",

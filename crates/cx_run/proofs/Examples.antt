@@ -14,6 +14,8 @@ use Rattle.cx_base.specs.declared.id.Id.{Id}
 use Rattle.cx_base.specs.declared.id.Id.TheVariants as id_is
 use Rattle.cx_base.specs.declared.id.Severity.TheVariants.{Error}
 use Rattle.cx_base.specs.Outside.{FilesState, SinkState}
+use Rattle.cx_lex.specs.Lexing.{whole as whole_text}
+use Rattle.cx_lex.specs.Lines.{characters}
 use Rattle.cx_first.proofs.RunLaws.{ends_in, reaches_start}
 use Rattle.cx_first.specs.declared.runs.RunEnd.TheVariants.{Finished}
 use Rattle.cx_first.specs.Grammar.{nothing}
@@ -215,8 +217,8 @@ no_source : Source
 no_source = record { names = []; statements = [] }
 
 no_text : IsTextOf [] no_source
-unfolding no_source
-no_text = record { pieces = []; cut = record { characters = refl; block = tt; line = tt; reads = refl }; read = nothing }
+unfolding no_source characters
+no_text = record { pieces = []; comments = []; cut = whole_text [] refl tt (omega arith); read = nothing }
 
 no_finding : Finds no_source []
 unfolding no_source

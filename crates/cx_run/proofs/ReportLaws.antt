@@ -5,7 +5,6 @@ use Rattle.cx_base.specs.declared.answers.Answer.{Answer}
 use Rattle.cx_base.specs.declared.answers.Answer.TheVariants.{Present, Absent, Folder, Unreadable, TooLarge}
 use Rattle.cx_base.specs.declared.answers.SeenEntry.{SeenEntry}
 use Rattle.cx_base.specs.declared.finding.Finding.{Finding}
-use Rattle.cx_lex.proofs.CutLaws.{unique}
 use Rattle.cx_first.proofs.RunLaws.{ends_same}
 use Rattle.cx_first.proofs.SameLaws.{text_same}
 use Rattle.cx_first.specs.declared.runs.RunEnd.{RunEnd}
@@ -18,13 +17,14 @@ use Rattle.cx_run.specs.declared.report.Report.{Report}
 use Rattle.cx_run.specs.declared.report.ReportPiece.{ReportPiece}
 use Rattle.cx_run.specs.declared.report.UnitReport.{UnitReport}
 use Rattle.cx_run.specs.Asking.{source_path}
-use Rattle.cx_run.specs.First.{IsTextOf, IsFirst, IsFindingAt, FindsBy, Finds, finding_of}
+use Rattle.cx_run.specs.First.{IsTextOf, IsFirst, IsFindingAt, FindsBy, Finds, finding_of, tokens_of}
+use Rattle.cx_run.proofs.FindingLaws.{pieces_same}
 use Rattle.cx_run.specs.Reports.{AreFindings, ArePieces, IsCauseOfAnswer, IsCauseOfSeen, IsReport, IsUnitReport, unit_pieces}
 
 text_of_same : (bytes : List ℕ) (one other : Source) → IsTextOf bytes one → IsTextOf bytes other → one ≡ other
 text_of_same bytes one other a b =
-    text_same 256 a.pieces one other a.read
-    (subst (λ pieces. IsFirstText pieces other) (unique bytes b.pieces a.pieces b.cut a.cut) b.read)
+    text_same 256 (tokens_of a.pieces) one other a.read
+    (subst (λ pieces. IsFirstText (tokens_of pieces) other) (pieces_same bytes b.pieces a.pieces b.comments a.comments b.cut a.cut) b.read)
 
 finding_same : (source : Source) (statement node : ℕ) (one other : Finding)
     → IsFindingAt source statement node one → IsFindingAt source statement node other → one ≡ other
@@ -70,13 +70,13 @@ units_same (entry ∷ entries) (unit ∷ units) (other ∷ others) a b =
     let rest = units_same entries units others a.1 b.1 in
     cc
 
-pieces_same : (cause : Cause) (seen : List SeenEntry) (some others : List ReportPiece) → ArePieces cause seen some → ArePieces cause seen others → some ≡ others
-pieces_same Done seen some others a b =
+told_same : (cause : Cause) (seen : List SeenEntry) (some others : List ReportPiece) → ArePieces cause seen some → ArePieces cause seen others → some ≡ others
+told_same Done seen some others a b =
     a.joined ∙ (ap (λ units. flat_map unit_pieces units) (units_same seen a.units b.units a.each b.each) ∙ sym b.joined)
-pieces_same NoInput seen some others a b = a ∙ sym b
-pieces_same NotBuilt seen some others a b = a ∙ sym b
-pieces_same (WriteFault sink) seen some others a b = absurd a
-pieces_same NoMemory seen some others a b = absurd a
+told_same NoInput seen some others a b = a ∙ sym b
+told_same NotBuilt seen some others a b = a ∙ sym b
+told_same (WriteFault sink) seen some others a b = absurd a
+told_same NoMemory seen some others a b = absurd a
 
 either_same : (P : Type 0) (one other : Cause) → (P × (one ≡ Done)) ⊎ (¬ P × (one ≡ NotBuilt)) → (P × (other ≡ Done)) ⊎ (¬ P × (other ≡ NotBuilt)) → one ≡ other
 either_same P one other a b =
@@ -105,5 +105,5 @@ source_same (Some path) seen one other a b = seen_same seen one other a b
 pub one_report : (words : List (List ℕ)) (seen : List SeenEntry) (one other : Report) → IsReport words seen one → IsReport words seen other → one ≡ other
 one_report words seen one other a b =
     let causes = source_same (source_path words) seen one.cause other.cause a.cause b.cause in
-    let pieces = pieces_same other.cause seen one.pieces other.pieces (subst (λ c. ArePieces c seen one.pieces) causes a.pieces) b.pieces in
+    let pieces = told_same other.cause seen one.pieces other.pieces (subst (λ c. ArePieces c seen one.pieces) causes a.pieces) b.pieces in
     λ i. record { cause = causes i; pieces = pieces i }

@@ -1,13 +1,15 @@
 -- What is found in a first text: the node at which its runs are stuck.
-use Rattle.std.specs.Prelude.{◌≡◌, ℕ, List, [], ◌∷◌, Some}
+use Rattle.std.specs.Prelude.{◌≡◌, ℕ, List, [], ◌∷◌, Some, map}
 use Rattle.cx_base.specs.declared.finding.Finding.{Finding}
 use Rattle.cx_base.specs.declared.finding.Word.{Word}
 use Rattle.cx_base.specs.declared.finding.Word.TheVariants.{Text}
 use Rattle.cx_base.specs.declared.id.Id.{Id}
 use Rattle.cx_base.specs.declared.id.Id.TheVariants.{UninitVar, ZeroDiv, IntegerOverflow}
 use Rattle.cx_base.specs.declared.id.Severity.TheVariants.{Error}
+use Rattle.cx_lex.specs.declared.comment.Comment.{Comment}
 use Rattle.cx_lex.specs.declared.piece.Piece.{Piece}
-use Rattle.cx_lex.specs.FirstPieces.{FirstPieces}
+use Rattle.cx_lex.specs.Lexing.{Lexes, lexed, piece_limit}
+use Rattle.cx_tokens.specs.declared.token.Token.{Token}
 use Rattle.cx_first.specs.declared.evaluation.Undefined.{Undefined}
 use Rattle.cx_first.specs.declared.evaluation.Undefined.TheVariants.{Uninitialized, ZeroDivisor, Overflow}
 use Rattle.cx_first.specs.declared.nodes.Node.{Node}
@@ -18,13 +20,17 @@ use Rattle.cx_first.specs.Nodes.{node_of}
 use Rattle.cx_first.specs.Runs.{Ends, IsStuck, IsNeverPassed}
 use Rattle.cx_first.specs.Tree.{Source}
 
--- the bytes are a first text, and this is its tree
+abbrev pub tokens_of : List Piece → List Token
+tokens_of pieces = map (λ p. p.token) pieces
+
+-- the tokens of the bytes are a first text, and this is its tree
 pub record IsTextOf (bytes : List ℕ) (source : Source) : Type 0 where
   pub pieces : List Piece
-  pub cut : FirstPieces bytes pieces
-  pub read : IsFirstText pieces source
+  pub comments : List Comment
+  pub cut : Lexes 0 piece_limit bytes (lexed pieces comments)
+  pub read : IsFirstText (tokens_of pieces) source
 
--- the bytes are a first text
+-- the tokens of the bytes are a first text
 abbrev pub IsFirst : List ℕ → Type 0
 IsFirst bytes = (source : Source) × IsTextOf bytes source
 

@@ -3,13 +3,17 @@ ghost use Rattle.std.specs.Prelude.{◌≡◌, ◌<◌, [], ◌∷◌, length, I
 ghost use Rattle.cx_lex.specs.Lines.{place_limit};
 ghost use Rattle.cx_first.specs.Runs.{IsNumbered, IsStuck};
 ghost use Rattle.cx_first.specs.Tree.{source_of};
-ghost use Rattle.cx_run.specs.First.{FindsBy, Finds, finding_of, id_of, words_of};
+ghost use Rattle.cx_run.specs.First.{FindsBy, Finds, finding_of, id_of, tokens_of, words_of};
 ghost use Rattle.cx_run.specs.Shapes.Outcomes.{SomeIfFirst, SomeIfRead};
 
 use cx_base::{Bytes, Finding, Id, List, NoMemory, Severity, Text, Word};
 use cx_first::{FirstText, Node, RunEnd, Undefined, node_at, read, run};
-use cx_lex::{Piece, lex_first};
+use cx_lex::{LexFault, Piece, lex};
+use cx_tokens::Token;
 use std::alloc::Global;
+
+/// A text that is read has fewer tokens.
+const MOST_TOKENS: usize = 4_294_967_295;
 
 fn id_of(cause: Undefined) -> Id
     ensures { result ≡ id_of cause }
@@ -84,11 +88,24 @@ fn text_findings(alloc: Global, text: &FirstText) -> Result<List<Finding>, NoMem
     }
 }
 
-fn findings_of(alloc: Global, pieces: &[Piece]) -> Result<Option<List<Finding>>, NoMemory>
-    requires { length pieces.now < place_limit }
-    ensures { IfOk result (SomeIfRead pieces.now) }
+fn tokens_of(alloc: Global, pieces: &[Piece]) -> Result<List<Token>, NoMemory>
+    ensures { IfOk result (λ tokens. tokens ≡ tokens_of pieces.now) }
 {
-    match read(alloc, pieces)? {
+    let mut tokens = List::new(alloc);
+    for piece in pieces {
+        tokens.push(piece.token.copy()?)?;
+    }
+    Ok(tokens)
+}
+
+fn findings_of(alloc: Global, pieces: &[Piece]) -> Result<Option<List<Finding>>, NoMemory>
+    ensures { IfOk result (SomeIfRead (tokens_of pieces.now)) }
+{
+    let tokens = tokens_of(alloc, pieces)?;
+    if tokens.len() >= MOST_TOKENS {
+        return Err(NoMemory);
+    }
+    match read(alloc, tokens.as_slice())? {
         Some(text) => {
             let findings = text_findings(alloc, &text)?;
             Ok(Some(findings))
@@ -97,13 +114,16 @@ fn findings_of(alloc: Global, pieces: &[Piece]) -> Result<Option<List<Finding>>,
     }
 }
 
-/// The findings in the bytes, exactly where they are a first text.
+/// The findings in the bytes, exactly where their tokens are a first text.
+#[tactic(auto, using(crate::proofs::FindingLaws::first_where_read))]
 pub(crate) fn findings_in(alloc: Global, bytes: &Bytes) -> Result<Option<List<Finding>>, NoMemory>
     requires { length bytes.now < place_limit }
     ensures { IfOk result (SomeIfFirst bytes.now) }
 {
-    match lex_first(alloc, bytes.as_slice())? {
-        Some(pieces) => findings_of(alloc, pieces.as_slice()),
-        None => Ok(None),
+    match lex(alloc, bytes.as_slice(), 0) {
+        Ok(lexed) => findings_of(alloc, lexed.pieces.as_slice()),
+        Err(LexFault::UnclosedComment { .. }) => Ok(None),
+        Err(LexFault::TooLong { .. }) => Ok(None),
+        Err(LexFault::NoMemory) => Err(NoMemory),
     }
 }

@@ -14,7 +14,7 @@ use Rattle.cx_lines.specs.declared.kind.LineKind.TheVariants.{Define, Undef, Err
 use Rattle.cx_lines.specs.declared.nesting.NestingFault.{NestingFault}
 use Rattle.cx_pre.specs.declared.fault.PreFault.{PreFault}
 use Rattle.cx_pre.specs.declared.fault.PreFault.TheVariants.{BadDirective, Macro}
-use Rattle.cx_pre.specs.declared.shelf.Shelf.{Shelf}
+use Rattle.cx_shelf.specs.declared.shelf.Shelf.{Shelf}
 use Rattle.cx_pre.specs.declared.stop.Stop.{Stop}
 use Rattle.cx_pre.specs.declared.stop.Stop.TheVariants.{Fault, NoMemory}
 use Rattle.cx_pre.specs.Choosing.{Comes}

@@ -6,7 +6,7 @@ use Rattle.cx_base.specs.declared.finding.Finding.{Finding}
 use Rattle.cx_run.specs.declared.deciding.Outcome.{Outcome}
 use Rattle.cx_run.specs.declared.deciding.Outcome.TheVariants.{Unit as A_unit, NoInput as No_input, NotBuilt as Not_built}
 use Rattle.cx_run.specs.declared.report.Cause.TheVariants.{Done, NoInput, NotBuilt}
-use Rattle.cx_lex.specs.declared.piece.Piece.{Piece}
+use Rattle.cx_tokens.specs.declared.token.Token.{Token}
 use Rattle.cx_first.specs.Grammar.{IsFirstText}
 use Rattle.cx_first.specs.Tree.{Source}
 use Rattle.cx_run.specs.First.{Finds, IsFirst, IsTextOf}
@@ -18,11 +18,11 @@ SomeIfFirst bytes found =
     MatchOption found (¬ IsFirst bytes)
     (λ findings. (source : Source) × IsTextOf bytes source × Finds source findings)
 
--- the findings in the text that the pieces are, exactly where they are one
-abbrev pub SomeIfRead : List Piece → Option (List Finding) → Type 0
-SomeIfRead pieces found =
-    MatchOption found ((source : Source) → ¬ IsFirstText pieces source)
-    (λ findings. (source : Source) × IsFirstText pieces source × Finds source findings)
+-- the findings in the text that the tokens are, exactly where they are one
+abbrev pub SomeIfRead : List Token → Option (List Finding) → Type 0
+SomeIfRead tokens found =
+    MatchOption found ((source : Source) → ¬ IsFirstText tokens source)
+    (λ findings. (source : Source) × IsFirstText tokens source × Finds source findings)
 
 -- an outcome is what the answer decides, and its unit is reported
 abbrev pub IsOutcome : List ℕ → Answer → Outcome → Type 0

@@ -9,8 +9,8 @@ abbrev pub invariant-loop-rest : goal.invariant-loop-rest
 invariant-loop-rest l = record {
   few : length l.names + length l.rest < 4294967296;
   found : (forms : List Form) (all : Names) → Body l.limit l.function l.awaits l.names l.rest forms all
-      → Body l.limit l.function awaits.Statement [] l.pieces (map form_of l.statements ++ forms) all;
-  only : (forms : List Form) (all : Names) → Body l.limit l.function awaits.Statement [] l.pieces forms all
+      → Body l.limit l.function awaits.Statement [] l.tokens (map form_of l.statements ++ forms) all;
+  only : (forms : List Form) (all : Names) → Body l.limit l.function awaits.Statement [] l.tokens forms all
       → (more : List Form) × (forms ≡ map form_of l.statements ++ more) × Body l.limit l.function l.awaits l.names l.rest more all;
 }
 

@@ -10,12 +10,12 @@ returns-in_default-clause-none c = λ name rest h. c.in_default.ensures h.behind
 pub returns-in_default-after_terminal-clause-none : goal.returns-in_default-after_terminal-clause-none
 returns-in_default-after_terminal-clause-none c = λ name rest h.
     let a = terminal_along _ _ _ _ _ c.in-Some.ensures h.int refl in
-    let named : TerminalAt terminal_is.Name c.in-Some.named.now h.behind_name = record { piece = name; whole = a ∙ h.named; signed = h.signed } in
+    let named : TerminalAt terminal_is.Name c.in-Some.named.now h.behind_name = record { token = name; whole = a ∙ h.named; signed = h.signed } in
     c.in_default-after_terminal.ensures h.behind_name named
 
 pub returns-in-None-clause-none : goal.returns-in-None-clause-none
 returns-in-None-clause-none c = λ name rest h.
     let a = terminal_along _ _ _ _ _ c.in-Some.ensures h.int refl in
-    let named : TerminalAt terminal_is.Name c.in-Some.named.now h.behind_name = record { piece = name; whole = a ∙ h.named; signed = h.signed } in
+    let named : TerminalAt terminal_is.Name c.in-Some.named.now h.behind_name = record { token = name; whole = a ∙ h.named; signed = h.signed } in
     let b = terminal_along _ _ _ _ _ c.in-Some-after_terminal.ensures named refl in
     c.in-None.ensures.none rest (subst (λ x. OpeningAt x rest) (sym b) h.opening)

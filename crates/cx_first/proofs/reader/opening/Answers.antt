@@ -19,7 +19,7 @@ returns-in_default-after_terminal-2-clause-none c = λ rest h.
     c.in_default-after_terminal-2.ensures h.behind_close (subst (λ x. TerminalAt terminal_is.Close x h.behind_close) (sym b) h.closing)
 
 pub returns-clause-none : goal.returns-clause-none
-returns-clause-none c = none_of c.after_terminal-4.result (NoTerminal terminal_is.Begin c.in-Some-after_terminal-2.rest.now) (NoOpening c.args.pieces.now) _ c.after_terminal-4.ensures (λ none rest h.
+returns-clause-none c = none_of c.after_terminal-4.result (NoTerminal terminal_is.Begin c.in-Some-after_terminal-2.rest.now) (NoOpening c.args.tokens.now) _ c.after_terminal-4.ensures (λ none rest h.
     let a = terminal_along _ _ _ _ _ c.in-Some.ensures h.opening refl in
     let b = terminal_along _ _ _ _ _ c.in-Some-after_terminal.ensures h.void a in
     let d = terminal_along _ _ _ _ _ c.in-Some-after_terminal-2.ensures h.closing b in

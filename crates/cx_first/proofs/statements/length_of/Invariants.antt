@@ -2,12 +2,12 @@ use Rattle.std.proofs.Common.{◌≡◌, ◌≤◌, ◌+◌, ◌-◌, length, op
 use Rattle.cx_first.specs.Descent.{ends_after}
 use Rattle.cx_first.proofs.statements.length_of.Given as goal
 
-abbrev pub invariant-loop-piece : goal.invariant-loop-piece
-invariant-loop-piece l = record {
+abbrev pub invariant-loop-token : goal.invariant-loop-token
+invariant-loop-token l = record {
   within : l.count ≤ l.limit;
-  counted : l.count + length l.rest ≡ length l.pieces;
-  going : ends_after l.limit l.pieces ≡ option_map (λ n. l.count + n) (ends_after (l.limit - l.count) l.rest);
+  counted : l.count + length l.rest ≡ length l.tokens;
+  going : ends_after l.limit l.tokens ≡ option_map (λ n. l.count + n) (ends_after (l.limit - l.count) l.rest);
 }
 
-abbrev pub decreases-loop-piece : goal.decreases-loop-piece
-decreases-loop-piece l = length l.rest
+abbrev pub decreases-loop-token : goal.decreases-loop-token
+decreases-loop-token l = length l.rest

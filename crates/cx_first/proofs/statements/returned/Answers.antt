@@ -16,4 +16,4 @@ pub returns-in-Some-clause-only : goal.returns-in-Some-clause-only
 returns-in-Some-clause-only c = λ form rest s.
     let p = returned_parts c.requires.word s in
     let value = rw c.in-Some.is at (c.in_ok-closed_expression.ensures.only p.tree rest p.expression) in
-    (ap (returns c.args.piece.now.token.place) value.0 ∙ sym p.is, value.1)
+    (ap (returns c.args.token.now.place) value.0 ∙ sym p.is, value.1)

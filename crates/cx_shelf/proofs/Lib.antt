@@ -1,0 +1,7 @@
+mod ClosureExamples
+pub mod FileLists
+pub mod FollowLaws
+pub mod IncludeLaws
+pub mod ReachLaws
+mod SearchExamples
+pub mod SearchLaws

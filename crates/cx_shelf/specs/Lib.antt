@@ -1,0 +1,5 @@
+pub mod Closures
+pub mod Includes
+pub mod Searches
+pub mod Shelves
+pub mod Shapes

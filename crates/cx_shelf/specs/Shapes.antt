@@ -1,0 +1,2 @@
+-- What the code answers, as functions and relations of its own shape.
+pub mod Searching
