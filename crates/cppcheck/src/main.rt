@@ -3,7 +3,8 @@
 
 use arguments::{Arguments, read_arguments};
 use cx_base::{Bytes, DiskFiles, Lost, StdSink, write_whole};
-use cx_run::{are_in_bounds, run};
+use cx_options::are_in_bounds;
+use cx_run::run;
 use std::process::ExitCode;
 
 mod arguments;

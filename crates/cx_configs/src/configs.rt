@@ -142,9 +142,10 @@ fn configs_of(
 /// The configurations of a unit, the file with that number: macros and names that may be defined
 /// outside of its sources. Each has the macros of the library and then those of `-D` that no `-U`
 /// names, and a list of names that are defined as 1. The first list is empty. The others are those
-/// for which the conditional lines of the unit's files ask, in order, each once: up to 12 in all, or
-/// as many as `--max-configs=` says, or all with `--force`; with a macro of `-D` and neither of
-/// these two there is the empty list alone. Names are hashed under this key, which the sources give.
+/// for which the conditional lines of the unit's files ask, in order, each once: up to 12 in all,
+/// or as many as `--max-configs=` says, or all with `--force`; with a macro of `-D` and neither of
+/// these two there is the empty list alone. Names are hashed under this key, which the sources
+/// give.
 pub fn configurations(
     alloc: Global,
     key: NameKey,

@@ -1,3 +1,4 @@
+mod Examples
 pub mod TreeLaws
 pub mod CountingLaws
 pub mod RunLaws

@@ -14,8 +14,10 @@ last_counted cause None = record { nodes = 0; end = at_end.Undefined cause }
 last_counted cause (Some v) = record { nodes = 1; end = at_end.Value v }
 
 abbrev pub counts_on : ℕ → End → (ℤ → Tally) → Tally
-counts_on nodes (at_end.Value v) next = record { nodes = nodes + (next v).nodes; end = (next v).end }
-counts_on nodes (at_end.Undefined cause) next = record { nodes = nodes; end = at_end.Undefined cause }
+counts_on nodes (at_end.Value v) next =
+    record { nodes = nodes + (next v).nodes; end = (next v).end }
+counts_on nodes (at_end.Undefined cause) next =
+    record { nodes = nodes; end = at_end.Undefined cause }
 
 abbrev pub then_count : Tally → (ℤ → Tally) → Tally
 then_count first next = counts_on first.nodes first.end next
@@ -24,10 +26,12 @@ unfoldable pub counted : Tree → Memory → Tally
 counted (number value at) memory = last_counted Overflow (Some (pos value))
 counted (variable index at) memory = last_counted Uninitialized (held memory index)
 counted (negation at operand) memory =
-    then_count (counted operand memory) (λ v. last_counted Overflow (on_int operation.Negate v (pos 0)))
+    then_count (counted operand memory)
+    (λ v. last_counted Overflow (on_int operation.Negate v (pos 0)))
 counted (binary operator at left right) memory =
     then_count (counted left memory) (λ v.
-    then_count (counted right memory) (λ w. last_counted (cause_of operator w) (on_int (operation_of operator) v w)))
+    then_count (counted right memory)
+    (λ w. last_counted (cause_of operator w) (on_int (operation_of operator) v w)))
 counted (brackets inner) memory = counted inner memory
 
 abbrev pub count_of : Made → Tally

@@ -16,13 +16,15 @@ Stops level [] = Unit {0}
 Stops level (p ∷ rest) = (op : Operator) → operator_of (terminal p) ≡ Some op → level < level_of op
 
 -- at the front stands this operator, of this level
-pub record OperatorAt (level : ℕ) (tokens : List Token) (op : Operator) (p : Token) (rest : List Token) : Type 0 where
+pub record OperatorAt (level : ℕ) (tokens : List Token) (op : Operator) (p : Token)
+    (rest : List Token) : Type 0 where
   pub whole : tokens ≡ p ∷ rest
   pub operator : operator_of (terminal p) ≡ Some op
   pub binds : level_of op ≡ level
 
 abbrev pub NoOperator : ℕ → List Token → Type 0
-NoOperator level tokens = (op : Operator) (p : Token) (rest : List Token) → OperatorAt level tokens op p rest → ⊥
+NoOperator level tokens =
+    (op : Operator) (p : Token) (rest : List Token) → OperatorAt level tokens op p rest → ⊥
 
 -- at the front stands a token of this terminal
 pub record TerminalAt (wanted : Terminal) (tokens rest : List Token) : Type 0 where
@@ -47,7 +49,8 @@ one_more false (suc left) more = option_map suc (more left)
 
 unfoldable pub ends_after : ℕ → List Token → Option ℕ
 ends_after left [] = None
-ends_after left (p ∷ rest) = one_more (ends_expression (terminal p)) left (λ fewer. ends_after fewer rest)
+ends_after left (p ∷ rest) =
+    one_more (ends_expression (terminal p)) left (λ fewer. ends_after fewer rest)
 
 -- the body's last token, and nothing behind it
 abbrev pub is_end : Terminal → Bool
@@ -59,13 +62,15 @@ is_closed awaits.Statement (p ∷ []) = is_end (terminal p)
 is_closed here tokens = false
 
 -- at the front stands a name that may be declared
-pub record NewNameAt (function : List ℕ) (names : Names) (tokens : List Token) (p : Token) (rest : List Token) : Type 0 where
+pub record NewNameAt (function : List ℕ) (names : Names) (tokens : List Token) (p : Token)
+    (rest : List Token) : Type 0 where
   pub whole : tokens ≡ p ∷ rest
   pub named : terminal p ≡ terminal_is.Name
   pub fresh : IsNew function names p.text
 
 abbrev pub NoNewName : List ℕ → Names → List Token → Type 0
-NoNewName function names tokens = (p : Token) (rest : List Token) → NewNameAt function names tokens p rest → ⊥
+NoNewName function names tokens =
+    (p : Token) (rest : List Token) → NewNameAt function names tokens p rest → ⊥
 
 -- at the front stands ( void ) {
 pub record OpeningAt (tokens rest : List Token) : Type 0 where

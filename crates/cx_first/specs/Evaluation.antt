@@ -1,5 +1,5 @@
--- The evaluation of an expression in a memory (C11 6.5): each node makes its value after its operands, the left one
--- first, and brackets make none.
+-- The evaluation of an expression in a memory (C11 6.5): each node makes its value after its
+-- operands, the left one first, and brackets make none.
 use Rattle.std.specs.Prelude.{ℕ, ◌+◌, ℤ, pos, List, [], ◌∷◌, ◌++◌, length, slice_get, Option, Some, None, option_and_then, if◌then◌else◌}
 use Rattle.std.specs.Ordering.{int_eq}
 use Rattle.cx_tree.specs.declared.types.IntType.TheVariants.{Int}
@@ -42,7 +42,8 @@ cause_of Add b = Overflow
 cause_of Subtract b = Overflow
 cause_of Multiply b = Overflow
 
--- what an evaluation makes: the values of the nodes in the order in which they are made, and its end
+-- what an evaluation makes: the values of the nodes in the order in which they are made, and its
+-- end
 pub record Made : Type 0 where
   pub values : List ℤ
   pub end : End
@@ -54,8 +55,10 @@ last_node cause (Some v) = record { values = v ∷ []; end = at_end.Value v }
 
 -- what is made behind these values, where they end in a value
 abbrev pub goes_on : List ℤ → End → (ℤ → Made) → Made
-goes_on values (at_end.Value v) next = record { values = values ++ (next v).values; end = (next v).end }
-goes_on values (at_end.Undefined cause) next = record { values = values; end = at_end.Undefined cause }
+goes_on values (at_end.Value v) next =
+    record { values = values ++ (next v).values; end = (next v).end }
+goes_on values (at_end.Undefined cause) next =
+    record { values = values; end = at_end.Undefined cause }
 
 abbrev pub then_make : Made → (ℤ → Made) → Made
 then_make first next = goes_on first.values first.end next
@@ -67,7 +70,8 @@ made (negation at operand) memory =
     then_make (made operand memory) (λ v. last_node Overflow (on_int operation.Negate v (pos 0)))
 made (binary operator at left right) memory =
     then_make (made left memory) (λ v.
-    then_make (made right memory) (λ w. last_node (cause_of operator w) (on_int (operation_of operator) v w)))
+    then_make (made right memory)
+    (λ w. last_node (cause_of operator w) (on_int (operation_of operator) v w)))
 made (brackets inner) memory = made inner memory
 
 -- an evaluation stops at the node whose number is that of the values made, counted from 0

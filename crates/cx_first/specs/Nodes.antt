@@ -1,4 +1,5 @@
--- The nodes of an expression in the order in which they make their values, the place of each, and its text.
+-- The nodes of an expression in the order in which they make their values, the place of each, and
+-- its text.
 use Rattle.std.specs.Prelude.{◌≡◌, ℕ, ◌+◌, List, [], ◌∷◌, ◌++◌, length, slice_get, Option, Some, option_map, option_and_then, unwrap_or, codes, decimal}
 use Rattle.cx_base.specs.declared.place.Place.{Place}
 use Rattle.cx_first.specs.declared.tree.Operator.{Operator}
@@ -12,12 +13,14 @@ use Rattle.cx_first.specs.Tree.{Tree, number, variable, negation, binary, bracke
 use Rattle.cx_first.specs.Names.{Names}
 use Rattle.cx_first.specs.Runs.{expression}
 
--- each node stands behind its operands, the left one first, and brackets are no node of their own (C11 6.5.1p5)
+-- each node stands behind its operands, the left one first, and brackets are no node of their own
+-- (C11 6.5.1p5)
 unfoldable pub nodes : Tree → List Tree
 nodes (number value at) = number value at ∷ []
 nodes (variable index at) = variable index at ∷ []
 nodes (negation at operand) = nodes operand ++ negation at operand ∷ []
-nodes (binary operator at left right) = nodes left ++ (nodes right ++ binary operator at left right ∷ [])
+nodes (binary operator at left right) =
+    nodes left ++ (nodes right ++ binary operator at left right ∷ [])
 nodes (brackets inner) = nodes inner
 
 -- the place of the number, of the name or of the operator
@@ -43,12 +46,14 @@ unfoldable pub text_of : Names → Tree → List ℕ
 text_of names (number value at) = decimal value
 text_of names (variable index at) = name_of names index
 text_of names (negation at operand) = codes "-" ++ text_of names operand
-text_of names (binary operator at left right) = text_of names left ++ (symbol_of operator ++ text_of names right)
+text_of names (binary operator at left right) =
+    text_of names left ++ (symbol_of operator ++ text_of names right)
 text_of names (brackets inner) = codes "(" ++ (text_of names inner ++ codes ")")
 
 -- the node of this number, counted from 0, in the expression of a statement
 abbrev pub node_tree : Source → ℕ → ℕ → Option Tree
-node_tree source statement node = option_and_then (λ tree. slice_get (nodes tree) node) (expression source statement)
+node_tree source statement node =
+    option_and_then (λ tree. slice_get (nodes tree) node) (expression source statement)
 
 -- a node with its place and its text
 abbrev pub written : Names → Tree → Node
@@ -62,7 +67,8 @@ abbrev pub FoundIs : List Tree → ℕ → Found → Type 0
 FoundIs among node (found.Node expr) = slice_get among node ≡ Some (tree_of expr.now)
 FoundIs among node (found.Past more) = node ≡ length among + more
 
--- the nodes that can be undefined for a cause: reads of variables, divisions, and operations (C11 6.3.2.1p2, 6.5.5p5, 6.5p5)
+-- the nodes that can be undefined for a cause: reads of variables, divisions, and operations (C11
+-- 6.3.2.1p2, 6.5.5p5, 6.5p5)
 abbrev pub CanStop : Undefined → Tree → Type 0
 CanStop Uninitialized (variable index at) = Unit {0}
 CanStop Uninitialized (number value at) = ⊥

@@ -37,14 +37,17 @@ stored pair index value = (pair.0 + 1, slice_set pair.1 index (Some value))
 -- where a statement of a text of so many leads; a return leads to the end
 abbrev pub after : ℕ → Pair → Form → Option Pair
 after count pair (declares index at None) = Some (pair.0 + 1, pair.1)
-after count pair (declares index at (Some initialiser)) = option_map (stored pair index) (value_in pair.1 initialiser)
+after count pair (declares index at (Some initialiser)) =
+    option_map (stored pair index) (value_in pair.1 initialiser)
 after count pair (assigns index at value) = option_map (stored pair index) (value_in pair.1 value)
 after count pair (returns at value) = option_map (λ v. (count, pair.1)) (value_in pair.1 value)
 
 abbrev pub next : Source → Pair → Option Pair
-next text pair = option_and_then (after (length text.statements) pair) (slice_get text.statements pair.0)
+next text pair =
+    option_and_then (after (length text.statements) pair) (slice_get text.statements pair.0)
 
--- a step from a pair to the next one; there is none from a pair at the end, and none where the value is undefined
+-- a step from a pair to the next one; there is none from a pair at the end, and none where the
+-- value is undefined
 abbrev pub Step : Source → Pair → Pair → Type 0
 Step text before later = next text before ≡ Some later
 
@@ -95,7 +98,8 @@ pub record StopsAt (tree : Tree) (memory : Memory) (node : ℕ) (cause : Undefin
   pub stopped : node ≡ length (made tree memory).values
   pub undefined : (made tree memory).end ≡ at_end.Undefined cause
 
--- the longest run ends before a statement whose expression is undefined there, at this node and for this cause
+-- the longest run ends before a statement whose expression is undefined there, at this node and for
+-- this cause
 pub record IsStuck (text : Source) (statement node : ℕ) (cause : Undefined) : Type 0 where
   pub memory : Memory
   pub ends : EndsIn text (statement, memory)
@@ -129,11 +133,13 @@ pub record IsNumbered (text : Source) : Type 0 where
 
 -- the laws of runs
 abbrev pub OneLongest : Source → Type 0
-OneLongest text = (run : List Pair) × IsLongest text run × ((other : List Pair) → IsLongest text other → other ≡ run)
+OneLongest text = (run : List Pair) × IsLongest text run
+    × ((other : List Pair) → IsLongest text other → other ≡ run)
 
 -- a statement evaluates in a memory: its expression has a value there, if it has an expression
 abbrev pub IsEvaluated : Memory → Form → Type 0
-IsEvaluated memory form = IfSome (evaluates form) (λ tree. (v : ℤ) × (value_in memory tree ≡ Some v))
+IsEvaluated memory form =
+    IfSome (evaluates form) (λ tree. (v : ℤ) × (value_in memory tree ≡ Some v))
 
 abbrev pub GoesOn : Source → Type 0
 GoesOn text = (run : List Pair) (pair : Pair) → IsRun text run → EndsAt run pair → (form : Form)

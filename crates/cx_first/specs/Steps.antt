@@ -9,7 +9,8 @@ use Rattle.cx_first.specs.Runs.{after, value_in, evaluates, StopsAt}
 
 -- a value stored
 abbrev pub StoresIs : Tree → ℕ → Memory → Memory → Next → Type 0
-StoresIs tree index memory new Behind = (v : ℤ) × (value_in memory tree ≡ Some v) × (new ≡ slice_set memory index (Some v))
+StoresIs tree index memory new Behind =
+    (v : ℤ) × (value_in memory tree ≡ Some v) × (new ≡ slice_set memory index (Some v))
 StoresIs tree index memory new Ended = ⊥
 StoresIs tree index memory new (Nowhere node cause) = StopsAt tree memory node cause
 
@@ -25,6 +26,8 @@ pub record IsNowhere (form : Form) (memory : Memory) (node : ℕ) (cause : Undef
   pub stops : StopsAt tree memory node cause
 
 abbrev pub StepIs : Form → Memory → Memory → Next → Type 0
-StepIs form memory new Behind = (count number : ℕ) → after count (number, memory) form ≡ Some (number + 1, new)
-StepIs form memory new Ended = (count number : ℕ) → after count (number, memory) form ≡ Some (count, memory)
+StepIs form memory new Behind =
+    (count number : ℕ) → after count (number, memory) form ≡ Some (number + 1, new)
+StepIs form memory new Ended =
+    (count number : ℕ) → after count (number, memory) form ≡ Some (count, memory)
 StepIs form memory new (Nowhere node cause) = IsNowhere form memory node cause

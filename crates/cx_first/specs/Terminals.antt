@@ -20,13 +20,15 @@ is_one_of word table = list_any (λ other. same word other.now) table
 -- C11 6.4.1
 abbrev pub keywords : List (List ℕ)
 keywords =
-    codes "auto" ∷ codes "break" ∷ codes "case" ∷ codes "char" ∷ codes "const" ∷ codes "continue" ∷ codes "default"
-    ∷ codes "do" ∷ codes "double" ∷ codes "else" ∷ codes "enum" ∷ codes "extern" ∷ codes "float" ∷ codes "for"
-    ∷ codes "goto" ∷ codes "if" ∷ codes "inline" ∷ codes "int" ∷ codes "long" ∷ codes "register" ∷ codes "restrict"
-    ∷ codes "return" ∷ codes "short" ∷ codes "signed" ∷ codes "sizeof" ∷ codes "static" ∷ codes "struct"
-    ∷ codes "switch" ∷ codes "typedef" ∷ codes "union" ∷ codes "unsigned" ∷ codes "void" ∷ codes "volatile"
-    ∷ codes "while" ∷ codes "_Alignas" ∷ codes "_Alignof" ∷ codes "_Atomic" ∷ codes "_Bool" ∷ codes "_Complex"
-    ∷ codes "_Generic" ∷ codes "_Imaginary" ∷ codes "_Noreturn" ∷ codes "_Static_assert" ∷ codes "_Thread_local" ∷ []
+    codes "auto" ∷ codes "break" ∷ codes "case" ∷ codes "char" ∷ codes "const" ∷ codes "continue"
+    ∷ codes "default" ∷ codes "do" ∷ codes "double" ∷ codes "else" ∷ codes "enum" ∷ codes "extern"
+    ∷ codes "float" ∷ codes "for" ∷ codes "goto" ∷ codes "if" ∷ codes "inline" ∷ codes "int"
+    ∷ codes "long" ∷ codes "register" ∷ codes "restrict" ∷ codes "return" ∷ codes "short"
+    ∷ codes "signed" ∷ codes "sizeof" ∷ codes "static" ∷ codes "struct" ∷ codes "switch"
+    ∷ codes "typedef" ∷ codes "union" ∷ codes "unsigned" ∷ codes "void" ∷ codes "volatile"
+    ∷ codes "while" ∷ codes "_Alignas" ∷ codes "_Alignof" ∷ codes "_Atomic" ∷ codes "_Bool"
+    ∷ codes "_Complex" ∷ codes "_Generic" ∷ codes "_Imaginary" ∷ codes "_Noreturn"
+    ∷ codes "_Static_assert" ∷ codes "_Thread_local" ∷ []
 
 unfoldable pub is_keyword : List ℕ → Bool
 is_keyword word = list_any (same word) keywords
@@ -59,15 +61,17 @@ abbrev pub mark : List ℕ → Terminal
 mark (byte ∷ []) = mark_of byte
 mark text = terminal_is.Foreign
 
--- whether a number is a decimal constant that is a value of type int: digits, the first of which is 0 only where it is
--- alone (C11 6.4.4.1)
+-- whether a number is a decimal constant that is a value of type int: digits, the first of which is
+-- 0 only where it is alone (C11 6.4.4.1)
 unfoldable pub is_int_constant : List ℕ → Bool
 is_int_constant [] = false
 is_int_constant (byte ∷ bytes) =
-    list_all is_digit (byte ∷ bytes) && not (byte == 48 && nat_lt 0 (length bytes)) && nat_le (number_of (byte ∷ bytes)) greatest
+    list_all is_digit (byte ∷ bytes) && not (byte == 48 && nat_lt 0 (length bytes))
+    && nat_le (number_of (byte ∷ bytes)) greatest
 
 unfoldable pub number : List ℕ → Terminal
-number text = if is_int_constant text then terminal_is.Number (number_of text) else terminal_is.Foreign
+number text =
+    if is_int_constant text then terminal_is.Number (number_of text) else terminal_is.Foreign
 
 abbrev pub terminal_of : Kind → List ℕ → Terminal
 terminal_of kind.Name text = word text

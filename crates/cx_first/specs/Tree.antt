@@ -7,7 +7,8 @@ use Rattle.cx_first.specs.declared.tree.Statement.{Statement}
 use Rattle.cx_first.specs.declared.tree.Statement.TheVariants.{Declare, Assign, Return}
 use Rattle.cx_first.specs.declared.tree.FirstText.{FirstText}
 
--- an expression (C11 6.5): a variable is its index in the names, a bracketed expression keeps its brackets
+-- an expression (C11 6.5): a variable is its index in the names, a bracketed expression keeps its
+-- brackets
 pub data Tree : Type 0 where
   number : (value : ℕ) (at : Place) → Tree
   variable : (index : ℕ) (at : Place) → Tree
@@ -30,7 +31,8 @@ unfoldable pub tree_of : Expr → Tree
 tree_of (Number value at) = number value at
 tree_of (Variable index at) = variable index at
 tree_of (Negation' at s (more_of-Expr a end_of-Expr)) = negation at (tree_of a)
-tree_of (Binary' op at s (more_of-Expr a end_of-Expr) t (more_of-Expr b end_of-Expr)) = binary op at (tree_of a) (tree_of b)
+tree_of (Binary' op at s (more_of-Expr a end_of-Expr) t (more_of-Expr b end_of-Expr)) =
+    binary op at (tree_of a) (tree_of b)
 tree_of (Brackets' s (more_of-Expr a end_of-Expr)) = brackets (tree_of a)
 
 abbrev pub form_of : Statement → Form

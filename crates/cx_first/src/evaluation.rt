@@ -137,7 +137,9 @@ fn counted(expr: &Expr, memory: &[Option<i128>]) -> Tally
 /// A unary `-` behind its operand.
 fn negated(operand: Tally) -> Tally
     requires { operand.nodes + 1 < 2 ^ 32 }
-    ensures { result ≡ then_count operand (λ v. last_counted Undefined.Overflow (meaning.on_int operation.Negate v (pos 0))) }
+    ensures { result
+        ≡ then_count operand
+        (λ v. last_counted Undefined.Overflow (meaning.on_int operation.Negate v (pos 0))) }
 {
     match operand.end {
         End::Undefined(_) => operand,
@@ -153,7 +155,10 @@ fn negated(operand: Tally) -> Tally
 fn operated(operator: Operator, left: Tally, right: Tally) -> Tally
     requires { left.nodes + right.nodes + 1 < 2 ^ 32 }
     ensures within { result.nodes ≤ left.nodes + right.nodes + 1 }
-    ensures counted { result ≡ then_count left (λ v. then_count right (λ w. last_counted (meaning.cause_of operator w) (meaning.on_int (meaning.operation_of operator) v w))) }
+    ensures counted { result ≡ then_count left
+        (λ v. then_count right
+        (λ w. last_counted (meaning.cause_of operator w)
+        (meaning.on_int (meaning.operation_of operator) v w))) }
 {
     match (left.end, right.end) {
         (End::Undefined(_), _) => left,

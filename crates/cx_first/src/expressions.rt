@@ -59,8 +59,11 @@ fn operator_at<'a>(level: u8, tokens: &'a [Token]) -> Option<(Operator, &'a Toke
 fn variable<'a>(names: &Names, token: &'a Token, rest: &'a [Token]) -> Option<(Expr, &'a [Token])>
     requires few { length names.now ≤ 4294967296 }
     requires name { terminal token.now ≡ Terminal.Name }
-    ensures found { IfSome result (λ x. Reads names.now 0 (token.now ∷ rest.now) (tree.tree_of x.0) x.1.now) }
-    ensures only { (t : tree.Tree) (behind : Items Token) → Reads names.now 0 (token.now ∷ rest.now) t behind → IsSomeAnd result (λ x. (tree.tree_of x.0 ≡ t) × (x.1.now ≡ behind)) }
+    ensures found { IfSome result
+        (λ x. Reads names.now 0 (token.now ∷ rest.now) (tree.tree_of x.0) x.1.now) }
+    ensures only { (t : tree.Tree) (behind : Items Token)
+        → Reads names.now 0 (token.now ∷ rest.now) t behind
+        → IsSomeAnd result (λ x. (tree.tree_of x.0 ≡ t) × (x.1.now ≡ behind)) }
     ensures shorter { IfSome result (λ x. length x.1.now ≤ length rest.now) }
 {
     let variable = names.find(token.text.as_slice())?;
@@ -77,8 +80,10 @@ fn operand<'a>(
     tokens: &'a [Token],
 ) -> Result<Option<(Expr, &'a [Token])>, NoMemory>
     requires { length names.now ≤ 4294967296 }
-    ensures found { IfOk result (λ f. IfSome f (λ x. Reads names.now 0 tokens.now (tree.tree_of x.0) x.1.now)) }
-    ensures only { (t : tree.Tree) (rest : Items Token) → Reads names.now 0 tokens.now t rest → IfOk result (λ f. IsSomeAnd f (λ x. (tree.tree_of x.0 ≡ t) × (x.1.now ≡ rest))) }
+    ensures found { IfOk result
+        (λ f. IfSome f (λ x. Reads names.now 0 tokens.now (tree.tree_of x.0) x.1.now)) }
+    ensures only { (t : tree.Tree) (rest : Items Token) → Reads names.now 0 tokens.now t rest
+        → IfOk result (λ f. IsSomeAnd f (λ x. (tree.tree_of x.0 ≡ t) × (x.1.now ≡ rest))) }
     ensures shorter { IfOk result (λ f. IfSome f (λ x. length x.1.now < length tokens.now)) }
 {
     let Some((token, rest)) = first(tokens) else {
@@ -107,8 +112,12 @@ fn negation<'a>(
 ) -> Result<Option<(Expr, &'a [Token])>, NoMemory>
     requires few { length names.now ≤ 4294967296 }
     requires minus { terminal token.now ≡ Terminal.Minus }
-    ensures found { IfOk result (λ f. IfSome f (λ x. Reads names.now 0 (token.now ∷ tokens.now) (tree.tree_of x.0) x.1.now)) }
-    ensures only { (t : tree.Tree) (rest : Items Token) → Reads names.now 0 (token.now ∷ tokens.now) t rest → IfOk result (λ f. IsSomeAnd f (λ x. (tree.tree_of x.0 ≡ t) × (x.1.now ≡ rest))) }
+    ensures found { IfOk result
+        (λ f. IfSome f
+        (λ x. Reads names.now 0 (token.now ∷ tokens.now) (tree.tree_of x.0) x.1.now)) }
+    ensures only { (t : tree.Tree) (rest : Items Token)
+        → Reads names.now 0 (token.now ∷ tokens.now) t rest
+        → IfOk result (λ f. IsSomeAnd f (λ x. (tree.tree_of x.0 ≡ t) × (x.1.now ≡ rest))) }
     ensures shorter { IfOk result (λ f. IfSome f (λ x. length x.1.now < length tokens.now)) }
 {
     match operand(alloc, names, tokens)? {
@@ -132,8 +141,12 @@ fn bracketed<'a>(
 ) -> Result<Option<(Expr, &'a [Token])>, NoMemory>
     requires few { length names.now ≤ 4294967296 }
     requires open { terminal token.now ≡ Terminal.Open }
-    ensures found { IfOk result (λ f. IfSome f (λ x. Reads names.now 0 (token.now ∷ tokens.now) (tree.tree_of x.0) x.1.now)) }
-    ensures only { (t : tree.Tree) (rest : Items Token) → Reads names.now 0 (token.now ∷ tokens.now) t rest → IfOk result (λ f. IsSomeAnd f (λ x. (tree.tree_of x.0 ≡ t) × (x.1.now ≡ rest))) }
+    ensures found { IfOk result
+        (λ f. IfSome f
+        (λ x. Reads names.now 0 (token.now ∷ tokens.now) (tree.tree_of x.0) x.1.now)) }
+    ensures only { (t : tree.Tree) (rest : Items Token)
+        → Reads names.now 0 (token.now ∷ tokens.now) t rest
+        → IfOk result (λ f. IsSomeAnd f (λ x. (tree.tree_of x.0 ≡ t) × (x.1.now ≡ rest))) }
     ensures shorter { IfOk result (λ f. IfSome f (λ x. length x.1.now < length tokens.now)) }
 {
     match chain(alloc, names, 2, tokens)? {
@@ -159,8 +172,11 @@ pub(crate) fn chain<'a>(
 ) -> Result<Option<(Expr, &'a [Token])>, NoMemory>
     requires few { length names.now ≤ 4294967296 }
     requires level { level ≤ 2 }
-    ensures found { IfOk result (λ f. IfSome f (λ x. Reads names.now level tokens.now (tree.tree_of x.0) x.1.now)) }
-    ensures only { (t : tree.Tree) (rest : Items Token) → Reads names.now level tokens.now t rest → Stops level rest → IfOk result (λ f. IsSomeAnd f (λ x. (tree.tree_of x.0 ≡ t) × (x.1.now ≡ rest))) }
+    ensures found { IfOk result
+        (λ f. IfSome f (λ x. Reads names.now level tokens.now (tree.tree_of x.0) x.1.now)) }
+    ensures only { (t : tree.Tree) (rest : Items Token) → Reads names.now level tokens.now t rest
+        → Stops level rest
+        → IfOk result (λ f. IsSomeAnd f (λ x. (tree.tree_of x.0 ≡ t) × (x.1.now ≡ rest))) }
     ensures shorter { IfOk result (λ f. IfSome f (λ x. length x.1.now < length tokens.now)) }
 {
     if level == 0 {
@@ -185,8 +201,12 @@ fn operators<'a>(
     requires few { length names.now ≤ 4294967296 }
     requires low { 0 < level }
     requires level { level ≤ 2 }
-    ensures found { IfOk result (λ f. IfSome f (λ x. Chains names.now level (tree.tree_of left) tokens.now (tree.tree_of x.0) x.1.now)) }
-    ensures only { (t : tree.Tree) (rest : Items Token) → Chains names.now level (tree.tree_of left) tokens.now t rest → Stops level rest → IfOk result (λ f. IsSomeAnd f (λ x. (tree.tree_of x.0 ≡ t) × (x.1.now ≡ rest))) }
+    ensures found { IfOk result
+        (λ f. IfSome f
+        (λ x. Chains names.now level (tree.tree_of left) tokens.now (tree.tree_of x.0) x.1.now)) }
+    ensures only { (t : tree.Tree) (rest : Items Token)
+        → Chains names.now level (tree.tree_of left) tokens.now t rest → Stops level rest
+        → IfOk result (λ f. IsSomeAnd f (λ x. (tree.tree_of x.0 ≡ t) × (x.1.now ≡ rest))) }
     ensures shorter { IfOk result (λ f. IfSome f (λ x. length x.1.now ≤ length tokens.now)) }
 {
     let mut left = left;

@@ -8,7 +8,8 @@ ghost use Rattle.cx_first.specs.Runs as meaning;
 
 /// At most one tree reads the tokens of a text.
 pub fn one_tree()
-    ensures { (tokens : List Token) (source other : Source) → IsFirstText tokens source → IsFirstText tokens other → source ≡ other }
+    ensures { (tokens : List Token) (source other : Source) → IsFirstText tokens source
+        → IsFirstText tokens other → source ≡ other }
 {}
 
 /// Each text has exactly one longest run, and each run is a front of it.
@@ -23,5 +24,6 @@ pub fn runs_go_on()
 
 /// No run passes the node at which its text is stuck, and a run comes to its statement.
 pub fn stuck_is_never_passed()
-    ensures { (text : Source) (statement node : ℕ) (cause : Undefined) → meaning.IsStuck text statement node cause → meaning.IsNeverPassed text statement node }
+    ensures { (text : Source) (statement node : ℕ) (cause : Undefined)
+        → meaning.IsStuck text statement node cause → meaning.IsNeverPassed text statement node }
 {}

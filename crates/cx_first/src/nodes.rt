@@ -142,7 +142,8 @@ fn evaluates(statement: &Statement) -> Option<&Expr>
 /// The expression of the statement of this number.
 #[tactic(auto, using(crate::proofs::NodeLaws::expression_past, crate::proofs::NodeLaws::expression_at))]
 fn expression(text: &FirstText, statement: u32) -> Option<&Expr>
-    ensures { option_map (λ e. tree_of e.now) result ≡ runs.expression (source_of text.now) statement }
+    ensures { option_map (λ e. tree_of e.now) result
+        ≡ runs.expression (source_of text.now) statement }
 {
     match text.statements.as_slice().get(statement as usize) {
         Some(statement) => evaluates(statement),
@@ -187,8 +188,11 @@ pub fn node_at(
 
 /// Where a text is stuck there is a node, and one that can be undefined for that cause.
 pub fn stuck_at_a_node()
-    ensures node { (text : Source) (statement node : ℕ) (cause : Undefined) → runs.IsStuck text statement node cause → IsSome (meaning.node_of text statement node) }
-    ensures fits { (text : Source) (statement node : ℕ) (cause : Undefined) → runs.IsStuck text statement node cause → IsSomeAnd (meaning.node_tree text statement node) (meaning.CanStop cause) }
+    ensures node { (text : Source) (statement node : ℕ) (cause : Undefined)
+        → runs.IsStuck text statement node cause → IsSome (meaning.node_of text statement node) }
+    ensures fits { (text : Source) (statement node : ℕ) (cause : Undefined)
+        → runs.IsStuck text statement node cause
+        → IsSomeAnd (meaning.node_tree text statement node) (meaning.CanStop cause) }
 {}
 
 #[cfg(test)]

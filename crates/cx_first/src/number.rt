@@ -18,7 +18,8 @@ fn first(bytes: &[u8]) -> Option<(u8, &[u8])>
 
 /// The value of a decimal constant of type `int`, or `None` where the text is none.
 pub fn number_value(text: &[u8]) -> Option<u32>
-    ensures { MatchOption result (¬ IsIntConstant text.now) (λ value. IsIntConstant text.now × (value ≡ number_of text.now)) }
+    ensures { MatchOption result (¬ IsIntConstant text.now)
+        (λ value. IsIntConstant text.now × (value ≡ number_of text.now)) }
 {
     value_of(text)
 }
@@ -52,7 +53,9 @@ fn digits_value(text: &[u8]) -> Option<u32>
 #[tactic(auto, unfolding(crate::specs::Shapes::Digits::takes_digit, cx_lex::specs::Characters::is_digit, crate::specs::Numbers::greatest))]
 fn with_digit(value: u32, byte: u8) -> Option<u32>
     requires { value ≤ greatest }
-    ensures { MatchOption result (takes_digit value byte ≡ false) (λ more. (takes_digit value byte ≡ true) × (more ≡ 10 * value + (byte - 48)) × (more ≤ greatest)) }
+    ensures { MatchOption result (takes_digit value byte ≡ false)
+        (λ more. (takes_digit value byte ≡ true) × (more ≡ 10 * value + (byte - 48))
+        × (more ≤ greatest)) }
 {
     if !byte.is_ascii_digit() {
         return None;

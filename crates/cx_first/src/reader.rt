@@ -41,8 +41,12 @@ fn body(
 ) -> Result<Option<List<Statement>>, NoMemory>
     requires few { length tokens.now < 4294967296 }
     requires none { names.old ≡ [] }
-    ensures found { IfOk result (λ f. IfSome f (λ x. Body limit function.now Awaits.Statement [] tokens.now (map form_of x) names.new)) }
-    ensures only { (forms : Items Form) (all : NamesSoFar) → Body limit function.now Awaits.Statement [] tokens.now forms all → IfOk result (λ f. IsSomeAnd f (λ x. (map form_of x ≡ forms) × (names.new ≡ all))) }
+    ensures found { IfOk result
+        (λ f. IfSome f
+        (λ x. Body limit function.now Awaits.Statement [] tokens.now (map form_of x) names.new)) }
+    ensures only { (forms : Items Form) (all : NamesSoFar)
+        → Body limit function.now Awaits.Statement [] tokens.now forms all
+        → IfOk result (λ f. IsSomeAnd f (λ x. (map form_of x ≡ forms) × (names.new ≡ all))) }
 {
     let mut statements = List::new(alloc);
     let mut awaits = Awaits::Statement;
@@ -116,8 +120,14 @@ fn function(
     tokens: &[Token],
 ) -> Result<Option<FirstText>, NoMemory>
     requires { length tokens.now < 4294967296 }
-    ensures found { IfOk result (λ f. IfSome f (λ x. Body limit name.now Awaits.Statement [] tokens.now (map form_of x.statements) x.names)) }
-    ensures only { (forms : Items Form) (all : NamesSoFar) → Body limit name.now Awaits.Statement [] tokens.now forms all → IfOk result (λ f. IsSomeAnd f (λ x. (map form_of x.statements ≡ forms) × (x.names ≡ all))) }
+    ensures found { IfOk result
+        (λ f. IfSome f
+        (λ x. Body limit name.now Awaits.Statement [] tokens.now
+        (map form_of x.statements) x.names)) }
+    ensures only { (forms : Items Form) (all : NamesSoFar)
+        → Body limit name.now Awaits.Statement [] tokens.now forms all
+        → IfOk result
+        (λ f. IsSomeAnd f (λ x. (map form_of x.statements ≡ forms) × (x.names ≡ all))) }
 {
     let mut names = Names::new(alloc, key_of(tokens));
     match body(alloc, name, limit, &mut names, tokens)? {
@@ -132,8 +142,10 @@ fn function(
 /// The first text that the tokens are, with expressions of at most so many tokens.
 fn read_within(alloc: Global, limit: usize, tokens: &[Token]) -> Result<Option<FirstText>, NoMemory>
     requires { length tokens.now < 4294967296 }
-    ensures found { IfOk result (λ f. IfSome f (λ text. ReadsText limit tokens.now (source_of text))) }
-    ensures only { (source : Source) → ReadsText limit tokens.now source → IfOk result (λ f. IsSomeAnd f (λ text. source_of text ≡ source)) }
+    ensures found { IfOk result
+        (λ f. IfSome f (λ text. ReadsText limit tokens.now (source_of text))) }
+    ensures only { (source : Source) → ReadsText limit tokens.now source
+        → IfOk result (λ f. IsSomeAnd f (λ text. source_of text ≡ source)) }
 {
     if tokens.is_empty() {
         return Ok(Some(FirstText {
@@ -155,7 +167,8 @@ fn read_within(alloc: Global, limit: usize, tokens: &[Token]) -> Result<Option<F
 pub fn read(alloc: Global, tokens: &[Token]) -> Result<Option<FirstText>, NoMemory>
     requires { length tokens.now < 4294967295 }
     ensures found { IfOk result (λ f. IfSome f (λ text. IsFirstText tokens.now (source_of text))) }
-    ensures only { (source : Source) → IsFirstText tokens.now source → IfOk result (λ f. IsSomeAnd f (λ text. source_of text ≡ source)) }
+    ensures only { (source : Source) → IsFirstText tokens.now source
+        → IfOk result (λ f. IsSomeAnd f (λ text. source_of text ≡ source)) }
     ensures numbered { IfOk result (λ f. IfSome f (λ text. IsNumbered (source_of text))) }
 {
     read_within(alloc, LONGEST, tokens)

@@ -120,7 +120,8 @@ fn end_in(memory: &mut Vec<Option<i128>>, text: &FirstText) -> RunEnd
 pub fn run(alloc: Global, text: &FirstText) -> Result<RunEnd, NoMemory>
     requires { meaning.IsNumbered (source_of text.now) }
     ensures ends { IfOk result (meaning.Ends (source_of text.now)) }
-    ensures only { (end : RunEnd) → meaning.Ends (source_of text.now) end → IfOk result (λ r. r ≡ end) }
+    ensures only { (end : RunEnd) → meaning.Ends (source_of text.now) end
+        → IfOk result (λ r. r ≡ end) }
 {
     let mut memory = no_values(alloc, text.names.len())?;
     Ok(end_in(&mut memory, text))

@@ -64,8 +64,12 @@ fn expression<'a>(
     tokens: &'a [Token],
 ) -> Result<Option<(Expr, Terminal, &'a [Token])>, NoMemory>
     requires { length names.now ≤ 4294967296 }
-    ensures found { IfOk result (λ f. IfSome f (λ x. Expression limit names.now tokens.now (tree_of x.0) x.1 x.2.now)) }
-    ensures only { (t : Tree) (mark : Terminal) (rest : Items Token) → Expression limit names.now tokens.now t mark rest → IsTrue (ends_expression mark) → IfOk result (λ f. IsSomeAnd f (λ x. (tree_of x.0 ≡ t) × (x.1 ≡ mark) × (x.2.now ≡ rest))) }
+    ensures found { IfOk result
+        (λ f. IfSome f (λ x. Expression limit names.now tokens.now (tree_of x.0) x.1 x.2.now)) }
+    ensures only { (t : Tree) (mark : Terminal) (rest : Items Token)
+        → Expression limit names.now tokens.now t mark rest → IsTrue (ends_expression mark)
+        → IfOk result
+        (λ f. IsSomeAnd f (λ x. (tree_of x.0 ≡ t) × (x.1 ≡ mark) × (x.2.now ≡ rest))) }
     ensures shorter { IfOk result (λ f. IfSome f (λ x. length x.2.now < length tokens.now)) }
 {
     let Some(count) = length_of(limit, tokens) else {
@@ -107,7 +111,8 @@ fn new_name<'a>(
 ) -> Option<(&'a Token, &'a [Token])>
     requires { length names.now ≤ 4294967296 }
     ensures none { IfNone result (NoNewName function.now names.now tokens.now) }
-    ensures some { IfSome result (λ x. NewNameAt function.now names.now tokens.now x.0.now x.1.now) }
+    ensures some { IfSome result
+        (λ x. NewNameAt function.now names.now tokens.now x.0.now x.1.now) }
 {
     let (token, rest) = first(tokens)?;
     let text = token.text.as_slice();
@@ -133,8 +138,13 @@ fn initialiser<'a>(
     tokens: &'a [Token],
 ) -> Result<Option<(Option<Expr>, Terminal, &'a [Token])>, NoMemory>
     requires { length names.now ≤ 4294967296 }
-    ensures found { IfOk result (λ f. IfSome f (λ x. Initialiser limit names.now tokens.now (option_map tree_of x.0) x.1 x.2.now)) }
-    ensures only { (t : Maybe Tree) (mark : Terminal) (rest : Items Token) → Initialiser limit names.now tokens.now t mark rest → IsTrue (ends_expression mark) → IfOk result (λ f. IsSomeAnd f (λ x. (option_map tree_of x.0 ≡ t) × (x.1 ≡ mark) × (x.2.now ≡ rest))) }
+    ensures found { IfOk result
+        (λ f. IfSome f
+        (λ x. Initialiser limit names.now tokens.now (option_map tree_of x.0) x.1 x.2.now)) }
+    ensures only { (t : Maybe Tree) (mark : Terminal) (rest : Items Token)
+        → Initialiser limit names.now tokens.now t mark rest → IsTrue (ends_expression mark)
+        → IfOk result
+        (λ f. IsSomeAnd f (λ x. (option_map tree_of x.0 ≡ t) × (x.1 ≡ mark) × (x.2.now ≡ rest))) }
     ensures shorter { IfOk result (λ f. IfSome f (λ x. length x.2.now < length tokens.now)) }
 {
     let Some((token, rest)) = first(tokens) else {
@@ -158,8 +168,16 @@ fn declarator<'a>(
     tokens: &'a [Token],
 ) -> Result<Option<(Statement, Terminal, &'a [Token])>, NoMemory>
     requires { length names.old < 4294967296 }
-    ensures found { IfOk result (λ f. IfSome f (λ x. Declarator limit function.now names.old tokens.now (form_of x.0) x.1 names.new x.2.now)) }
-    ensures only { (form : Form) (mark : Terminal) (then : NamesSoFar) (rest : Items Token) → Declarator limit function.now names.old tokens.now form mark then rest → IsTrue (ends_expression mark) → IfOk result (λ f. IsSomeAnd f (λ x. (form_of x.0 ≡ form) × (x.1 ≡ mark) × (names.new ≡ then) × (x.2.now ≡ rest))) }
+    ensures found { IfOk result
+        (λ f. IfSome f
+        (λ x. Declarator limit function.now names.old tokens.now
+        (form_of x.0) x.1 names.new x.2.now)) }
+    ensures only { (form : Form) (mark : Terminal) (then : NamesSoFar) (rest : Items Token)
+        → Declarator limit function.now names.old tokens.now form mark then rest
+        → IsTrue (ends_expression mark)
+        → IfOk result
+        (λ f. IsSomeAnd f
+        (λ x. (form_of x.0 ≡ form) × (x.1 ≡ mark) × (names.new ≡ then) × (x.2.now ≡ rest))) }
     ensures shorter { IfOk result (λ f. IfSome f (λ x. length x.2.now < length tokens.now)) }
     ensures grown { IfOk result (λ _. length names.new ≤ length names.old + 1) }
 {
@@ -194,8 +212,15 @@ fn declaration<'a>(
     tokens: &'a [Token],
 ) -> Result<Option<(Statement, Awaits, &'a [Token])>, NoMemory>
     requires { length names.old < 4294967296 }
-    ensures found { IfOk result (λ f. IfSome f (λ x. Reading limit function.now names.old Awaits.Declarator tokens.now (form_of x.0) x.1 names.new x.2.now)) }
-    ensures only { (form : Form) (next : Awaits) (then : NamesSoFar) (rest : Items Token) → Reading limit function.now names.old Awaits.Declarator tokens.now form next then rest → IfOk result (λ f. IsSomeAnd f (λ x. (form_of x.0 ≡ form) × (x.1 ≡ next) × (names.new ≡ then) × (x.2.now ≡ rest))) }
+    ensures found { IfOk result
+        (λ f. IfSome f
+        (λ x. Reading limit function.now names.old Awaits.Declarator tokens.now
+        (form_of x.0) x.1 names.new x.2.now)) }
+    ensures only { (form : Form) (next : Awaits) (then : NamesSoFar) (rest : Items Token)
+        → Reading limit function.now names.old Awaits.Declarator tokens.now form next then rest
+        → IfOk result
+        (λ f. IsSomeAnd f
+        (λ x. (form_of x.0 ≡ form) × (x.1 ≡ next) × (names.new ≡ then) × (x.2.now ≡ rest))) }
     ensures shorter { IfOk result (λ f. IfSome f (λ x. length x.2.now < length tokens.now)) }
     ensures grown { IfOk result (λ _. length names.new ≤ length names.old + 1) }
 {
@@ -216,8 +241,12 @@ fn closed_expression<'a>(
     tokens: &'a [Token],
 ) -> Result<Option<(Expr, &'a [Token])>, NoMemory>
     requires { length names.now ≤ 4294967296 }
-    ensures found { IfOk result (λ f. IfSome f (λ x. Expression limit names.now tokens.now (tree_of x.0) Terminal.Semicolon x.1.now)) }
-    ensures only { (t : Tree) (rest : Items Token) → Expression limit names.now tokens.now t Terminal.Semicolon rest → IfOk result (λ f. IsSomeAnd f (λ x. (tree_of x.0 ≡ t) × (x.1.now ≡ rest))) }
+    ensures found { IfOk result
+        (λ f. IfSome f
+        (λ x. Expression limit names.now tokens.now (tree_of x.0) Terminal.Semicolon x.1.now)) }
+    ensures only { (t : Tree) (rest : Items Token)
+        → Expression limit names.now tokens.now t Terminal.Semicolon rest
+        → IfOk result (λ f. IsSomeAnd f (λ x. (tree_of x.0 ≡ t) × (x.1.now ≡ rest))) }
     ensures shorter { IfOk result (λ f. IfSome f (λ x. length x.1.now < length tokens.now)) }
 {
     match expression(alloc, names, limit, tokens)? {
@@ -239,8 +268,12 @@ fn assignment<'a>(
 ) -> Result<Option<(Statement, &'a [Token])>, NoMemory>
     requires few { length names.now ≤ 4294967296 }
     requires name { terminal token.now ≡ Terminal.Name }
-    ensures found { IfOk result (λ f. IfSome f (λ x. Simple limit names.now (token.now ∷ tokens.now) (form_of x.0) x.1.now)) }
-    ensures only { (form : Form) (rest : Items Token) → Simple limit names.now (token.now ∷ tokens.now) form rest → IfOk result (λ f. IsSomeAnd f (λ x. (form_of x.0 ≡ form) × (x.1.now ≡ rest))) }
+    ensures found { IfOk result
+        (λ f. IfSome f
+        (λ x. Simple limit names.now (token.now ∷ tokens.now) (form_of x.0) x.1.now)) }
+    ensures only { (form : Form) (rest : Items Token)
+        → Simple limit names.now (token.now ∷ tokens.now) form rest
+        → IfOk result (λ f. IsSomeAnd f (λ x. (form_of x.0 ≡ form) × (x.1.now ≡ rest))) }
     ensures shorter { IfOk result (λ f. IfSome f (λ x. length x.1.now < length tokens.now)) }
 {
     let Some(variable) = names.find(token.text.as_slice()) else {
@@ -275,8 +308,12 @@ fn returned<'a>(
 ) -> Result<Option<(Statement, &'a [Token])>, NoMemory>
     requires few { length names.now ≤ 4294967296 }
     requires word { terminal token.now ≡ Terminal.Return }
-    ensures found { IfOk result (λ f. IfSome f (λ x. Simple limit names.now (token.now ∷ tokens.now) (form_of x.0) x.1.now)) }
-    ensures only { (form : Form) (rest : Items Token) → Simple limit names.now (token.now ∷ tokens.now) form rest → IfOk result (λ f. IsSomeAnd f (λ x. (form_of x.0 ≡ form) × (x.1.now ≡ rest))) }
+    ensures found { IfOk result
+        (λ f. IfSome f
+        (λ x. Simple limit names.now (token.now ∷ tokens.now) (form_of x.0) x.1.now)) }
+    ensures only { (form : Form) (rest : Items Token)
+        → Simple limit names.now (token.now ∷ tokens.now) form rest
+        → IfOk result (λ f. IsSomeAnd f (λ x. (form_of x.0 ≡ form) × (x.1.now ≡ rest))) }
     ensures shorter { IfOk result (λ f. IfSome f (λ x. length x.1.now < length tokens.now)) }
 {
     match closed_expression(alloc, limit, names, tokens)? {
@@ -296,8 +333,10 @@ fn simple<'a>(
     tokens: &'a [Token],
 ) -> Result<Option<(Statement, &'a [Token])>, NoMemory>
     requires { length names.now ≤ 4294967296 }
-    ensures found { IfOk result (λ f. IfSome f (λ x. Simple limit names.now tokens.now (form_of x.0) x.1.now)) }
-    ensures only { (form : Form) (rest : Items Token) → Simple limit names.now tokens.now form rest → IfOk result (λ f. IsSomeAnd f (λ x. (form_of x.0 ≡ form) × (x.1.now ≡ rest))) }
+    ensures found { IfOk result
+        (λ f. IfSome f (λ x. Simple limit names.now tokens.now (form_of x.0) x.1.now)) }
+    ensures only { (form : Form) (rest : Items Token) → Simple limit names.now tokens.now form rest
+        → IfOk result (λ f. IsSomeAnd f (λ x. (form_of x.0 ≡ form) × (x.1.now ≡ rest))) }
     ensures shorter { IfOk result (λ f. IfSome f (λ x. length x.1.now < length tokens.now)) }
 {
     let Some((token, rest)) = first(tokens) else {
@@ -320,8 +359,15 @@ pub(crate) fn statement<'a>(
     tokens: &'a [Token],
 ) -> Result<Option<(Statement, Awaits, &'a [Token])>, NoMemory>
     requires { length names.old < 4294967296 }
-    ensures found { IfOk result (λ f. IfSome f (λ x. Reading limit function.now names.old awaits tokens.now (form_of x.0) x.1 names.new x.2.now)) }
-    ensures only { (form : Form) (next : Awaits) (then : NamesSoFar) (rest : Items Token) → Reading limit function.now names.old awaits tokens.now form next then rest → IfOk result (λ f. IsSomeAnd f (λ x. (form_of x.0 ≡ form) × (x.1 ≡ next) × (names.new ≡ then) × (x.2.now ≡ rest))) }
+    ensures found { IfOk result
+        (λ f. IfSome f
+        (λ x. Reading limit function.now names.old awaits tokens.now
+        (form_of x.0) x.1 names.new x.2.now)) }
+    ensures only { (form : Form) (next : Awaits) (then : NamesSoFar) (rest : Items Token)
+        → Reading limit function.now names.old awaits tokens.now form next then rest
+        → IfOk result
+        (λ f. IsSomeAnd f
+        (λ x. (form_of x.0 ≡ form) × (x.1 ≡ next) × (names.new ≡ then) × (x.2.now ≡ rest))) }
     ensures shorter { IfOk result (λ f. IfSome f (λ x. length x.2.now < length tokens.now)) }
     ensures grown { IfOk result (λ _. length names.new ≤ length names.old + 1) }
 {

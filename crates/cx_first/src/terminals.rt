@@ -132,7 +132,8 @@ pub(crate) fn first<'a>(tokens: &'a [Token]) -> Option<(&'a Token, &'a [Token])>
 
 /// What stands behind a token of this terminal.
 pub(crate) fn after_terminal<'a>(wanted: Terminal, tokens: &'a [Token]) -> Option<&'a [Token]>
-    ensures { MatchOption result (NoTerminal wanted tokens.now) (λ rest. TerminalAt wanted tokens.now rest.now) }
+    ensures { MatchOption result (NoTerminal wanted tokens.now)
+        (λ rest. TerminalAt wanted tokens.now rest.now) }
 {
     let (token, rest) = first(tokens)?;
     if terminal_of(token) == wanted {

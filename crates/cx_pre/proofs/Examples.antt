@@ -3,22 +3,19 @@ use Rattle.std.proofs.Common.{◌≡◌, ℕ, Bool, true, false, List, [], ◌�
 use Rattle.std.specs.Prelude.{codes}
 use Rattle.cx_base.specs.declared.place.Place.{Place}
 use Rattle.cx_tokens.specs.declared.token.Kind.{Kind}
-use Rattle.cx_tokens.specs.declared.token.Kind.TheVariants.{Header, Name, Number, Punct, Unclosed}
+use Rattle.cx_tokens.specs.declared.token.Kind.TheVariants.{Name, Number, Punct, Unclosed}
 use Rattle.cx_tokens.specs.declared.token.Token.{Token}
 use Rattle.cx_tokens.specs.Brackets.{is_punctuator}
 use Rattle.cx_lex.specs.declared.piece.Piece.{Piece}
 use Rattle.cx_table.specs.NameTable.{with_entry}
 use Rattle.cx_macro.specs.Macros.{no_macros}
-use Rattle.cx_lines.specs.Kinds.{directive_kind, kind_after_hash, kind_of, named_kind}
-use Rattle.cx_lines.specs.Lines.{lines_of}
 use Rattle.cx_lines.specs.Nesting.{place_of}
 use Rattle.cx_lines.specs.declared.kind.LineKind.TheVariants as kind_is
 use Rattle.cx_lines.specs.declared.nesting.NestingFault.TheVariants.{Stray, Unclosed as unclosed_section}
 use Rattle.cx_directive.specs.Defines.{defined_by, definition_after, object_like}
-use Rattle.cx_directive.specs.Operands.{spelled, target_of}
+use Rattle.cx_directive.specs.Operands.{spelled}
 use Rattle.cx_pre.specs.declared.fault.PreFault.TheVariants.{BadDirective, ErrorDirective, StrayElse, UnclosedGroup, UnclosedLiteral}
 use Rattle.cx_pre.specs.Choosing.{after_directive, at_end}
-use Rattle.cx_shelf.specs.Includes.{includes_of}
 use Rattle.cx_pre.specs.Stages.{Stage, answer_of, is_once, stopped, through, unclosed_at}
 
 place_at : ℕ → ℕ → Place
@@ -40,26 +37,6 @@ piece first kind text place = record {
   token = token kind text false place;
   first_on_line = first;
 }
-
--- `#include <a>`
-line : ℕ → List Piece
-line n =
-    piece true Punct (codes "#") (place_at n 1) ∷ piece false Name (codes "include") (place_at n 2)
-    ∷ piece false Header (codes "<a>") (place_at n 10) ∷ []
-
--- the same behind a name
-behind_a_name : List Piece
-behind_a_name =
-    piece true Name (codes "x") (place_at 1 1) ∷ piece false Punct (codes "#") (place_at 1 3)
-    ∷ piece false Name (codes "include") (place_at 1 4) ∷ piece false Header (codes "\"a\"") (place_at 1 12) ∷ []
-
-a_name : includes_of (line 1) ≡ (record { name = codes "a"; quoted = false; at = place_at 1 10 }) ∷ []
-unfolding includes_of lines_of kind_of directive_kind kind_after_hash named_kind target_of is_punctuator piece token line
-a_name = refl
-
-no_directive : includes_of behind_a_name ≡ []
-unfolding includes_of lines_of kind_of directive_kind kind_after_hash named_kind target_of is_punctuator piece token behind_a_name
-no_directive = refl
 
 -- nothing was gone through but a `pragma once` in the second of two files
 stage : Stage

@@ -1,6 +1,5 @@
 //! Laws of what is chosen, each by the contract of a function that does nothing.
-ghost use Rattle.std.specs.Prelude.{◌≡◌, ◌⊎◌, ℕ, ◌+◌, ◌<◌, ◌≤◌, All, Contains, List, Option, Some, [], ◌∷◌, ◌++◌, false, flat_map, length, nat_eq, slice_get, true};
-ghost use Rattle.std.specs.List.{IsDistinct};
+ghost use Rattle.std.specs.Prelude.{◌≡◌, ℕ, ◌+◌, ◌<◌, ◌≤◌, All, List, Option, Some, [], ◌∷◌, ◌++◌, false, length, true};
 ghost use Rattle.cx_tokens.specs.declared.token.Token.{Token};
 ghost use Rattle.cx_lex.specs.declared.piece.Piece.{Piece};
 ghost use Rattle.cx_lines.specs.Kinds.{closes, is_text, kind_of, opens, parts};
@@ -16,7 +15,6 @@ ghost use Rattle.cx_directive.specs.Operands.{name_of, operands, target_of, toke
 ghost use Rattle.cx_pre.specs.declared.config.Config.{Config};
 ghost use Rattle.cx_shelf.specs.declared.shelf.Shelf.{Shelf};
 ghost use Rattle.cx_pre.specs.Choosing.{Comes, Does, Enters, IsChosen};
-ghost use Rattle.cx_shelf.specs.Closures.{closure_of, included};
 ghost use Rattle.cx_pre.specs.Conditions.{Choice, Chooses, Decides, Decision, decided};
 ghost use Rattle.cx_shelf.specs.Searches.{found};
 ghost use Rattle.cx_shelf.specs.Shelves.{path_of, pieces_of};

@@ -18,10 +18,10 @@ use std::alloc::Global;
 /// How deep includes may be nested: one in the file of the unit has depth 1.
 const INCLUDE_DEPTH: u32 = 64;
 
-/// What is chosen of a unit, the file with that number, in a configuration: the tokens of the groups
-/// that are chosen, with the files that they include and with macros replaced; or the first fault in
-/// the order of the text. An unclosed quote among the tokens comes behind every other fault. The names
-/// of macros are hashed under this key, which the sources give.
+/// What is chosen of a unit, the file with that number, in a configuration: the tokens of the
+/// groups that are chosen, with the files that they include and with macros replaced; or the first
+/// fault in the order of the text. An unclosed quote among the tokens comes behind every other
+/// fault. The names of macros are hashed under this key, which the sources give.
 pub fn preprocess(
     alloc: Global,
     key: NameKey,

@@ -1,29 +1,15 @@
 //! How a case is written, and how it is run.
-use cx_base::{
-    Answer, Bytes, FileCall, FileRequest, List, MemoryFiles, MemorySink, Path, SeenEntry, Stored,
-    can_stand,
-};
-use cx_run::{Cause, are_in_bounds, run};
+use crate::shown::shown_asked;
+use crate::within::Within;
+use cx_base::{Bytes, List, MemoryFiles, MemorySink, Path, Stored, can_stand};
+use cx_options::are_in_bounds;
+use cx_run::{Cause, Ended, run, run_within};
 use std::alloc::Global;
 use std::process::Abort;
 use std::test::Fail;
 
-/// The bytes of a file.
-#[derive(Clone, Copy)]
-pub enum Content {
-    Text(&'static [u8]),
-    /// So many spaces.
-    Blanks(usize),
-    /// A front, so many times a text, once a middle, as often a second text, and a back.
-    Nested {
-        front: &'static [u8],
-        opening: &'static [u8],
-        count: usize,
-        middle: &'static [u8],
-        closing: &'static [u8],
-        back: &'static [u8],
-    },
-}
+/// A file: its path, and its bytes.
+pub type File = (&'static str, &'static [u8]);
 
 /// A sink to write to.
 #[derive(Clone, Copy)]
@@ -34,125 +20,61 @@ pub enum Taking {
     Room(u64),
     /// One that takes so many bytes a call.
     Slow(u64),
-    /// One of which the first call fails.
-    Failing,
+    /// One of which the call with this number fails.
+    Failing(u64),
 }
-
-/// What stands at a path that was asked.
-#[derive(Clone, Copy)]
-pub enum Stands {
-    /// The file of that path, with its bytes.
-    File,
-    Nothing,
-    Folder,
-    /// What could not be read.
-    Unreadable,
-    /// A file past the limit.
-    TooLarge,
-}
-
-/// A call on the path, and whether it failed.
-#[derive(Clone, Copy)]
-pub struct Call {
-    pub request: FileRequest,
-    pub failed: bool,
-}
-
-/// A path that is to be asked, the answer, and the calls by which it is got.
-#[derive(Clone, Copy)]
-pub struct Asked {
-    pub path: &'static str,
-    pub stands: Stands,
-    pub calls: &'static [Call],
-}
-
-/// The call for the members of a folder.
-pub const LIST: Call = Call {
-    request: FileRequest::List,
-    failed: false,
-};
-
-/// The call for the bytes of a file.
-pub const READ: Call = Call {
-    request: FileRequest::Read { most: 4_194_305 },
-    failed: false,
-};
-
-/// The file `a.c`.
-pub const FILE: Asked = Asked {
-    path: "a.c",
-    stands: Stands::File,
-    calls: &[LIST, READ],
-};
 
 /// What is run, and what it is to give.
 #[derive(Clone, Copy)]
 pub struct Case {
     pub name: &'static str,
     pub words: &'static [&'static str],
-    pub files: &'static [(&'static str, Content)],
+    pub files: &'static [File],
     /// The numbers of the calls on the files that fail.
     pub failing: &'static [u64],
-    pub out: Taking,
-    pub err: Taking,
+    pub within: Within,
+    pub out_sink: Taking,
+    pub err_sink: Taking,
     pub cause: Cause,
     pub status: u8,
-    pub told: &'static str,
-    pub found: &'static str,
-    /// The paths that are asked, in order.
-    pub seen: &'static [Asked],
+    pub out: &'static str,
+    pub err: &'static str,
+    /// The calls on the files in order, and behind the last call of each path what stands there.
+    pub asked: &'static str,
 }
 
-/// A case of one word over whole sinks; its further fields are changed by the table.
+/// A case of one word over whole sinks; its further fields are changed by the tables.
 pub const PLAIN: Case = Case {
     name: "the empty file",
     words: &["a.c"],
-    files: &[("a.c", Content::Text(b""))],
+    files: &[("a.c", b"")],
     failing: &[],
-    out: Taking::All,
-    err: Taking::All,
+    within: Within::Command,
+    out_sink: Taking::All,
+    err_sink: Taking::All,
     cause: Cause::Done,
     status: 0,
-    told: "Checking a.c ...\n",
-    found: "",
-    seen: &[FILE],
+    out: "Checking a.c ...\n",
+    err: "",
+    asked: "list a.c, read a.c: file",
 };
 
-fn push_times(bytes: &mut Bytes, text: &[u8], count: usize) -> Result<(), Fail> {
-    for _ in 0..count {
-        bytes.push_all(text)?;
-    }
-    Ok(())
-}
+/// A case where nothing is checked.
+pub const REFUSED: Case = Case {
+    status: 1,
+    out: "",
+    ..PLAIN
+};
 
-fn bytes_of(alloc: Global, content: Content) -> Result<Bytes, Fail> {
-    match content {
-        Content::Text(text) => Ok(Bytes::from_slice(alloc, text)?),
-        Content::Blanks(count) => Ok(Bytes::from_vec(vec![in alloc; b' '; count]?)),
-        Content::Nested {
-            front,
-            opening,
-            count,
-            middle,
-            closing,
-            back,
-        } => {
-            let mut bytes = Bytes::from_slice(alloc, front)?;
-            push_times(&mut bytes, opening, count)?;
-            bytes.push_all(middle)?;
-            push_times(&mut bytes, closing, count)?;
-            bytes.push_all(back)?;
-            Ok(bytes)
-        }
-    }
-}
+/// What is told where what was asked for is not served yet.
+pub const NOT_BUILT: &str = "cppcheck: error: not built yet.\n";
 
-fn files_of(alloc: Global, files: &[(&'static str, Content)]) -> Result<List<Stored>, Fail> {
+fn files_of(alloc: Global, files: &[File]) -> Result<List<Stored>, Fail> {
     let mut list = List::new(alloc);
     for (path, bytes) in files {
         list.push(Stored {
             path: Path::from_str(alloc, path)?,
-            bytes: bytes_of(alloc, *bytes)?,
+            bytes: Bytes::from_slice(alloc, bytes)?,
         })?;
     }
     Ok(list)
@@ -184,117 +106,90 @@ fn sink_of(alloc: Global, taking: Taking) -> Result<MemorySink, Fail> {
             }
             Ok(MemorySink::slow(alloc, most))
         }
-        Taking::Failing => Ok(MemorySink::new(alloc, numbers_of(alloc, &[0])?)),
+        Taking::Failing(number) => Ok(MemorySink::new(alloc, numbers_of(alloc, &[number])?)),
     }
 }
 
-// The bytes of the file at a path.
-fn content_at(
-    alloc: Global,
-    files: &[(&'static str, Content)],
-    path: &str,
-) -> Result<Option<Bytes>, Fail> {
-    for (name, content) in files {
-        if *name == path {
-            return Ok(Some(bytes_of(alloc, *content)?));
-        }
-    }
-    Ok(None)
-}
-
-// Whether an answer is what is to stand at the path.
-fn is_answer(
-    alloc: Global,
-    answer: &Answer,
-    asked: &Asked,
-    files: &[(&'static str, Content)],
-) -> Result<bool, Fail> {
-    match (answer, asked.stands) {
-        (Answer::Present(bytes), Stands::File) => {
-            let Some(wanted) = content_at(alloc, files, asked.path)? else {
-                return Ok(false);
-            };
-            Ok(bytes.as_slice() == wanted.as_slice())
-        }
-        (Answer::Absent, Stands::Nothing) => Ok(true),
-        (Answer::Folder(_), Stands::Folder) => Ok(true),
-        (Answer::Unreadable, Stands::Unreadable) => Ok(true),
-        (Answer::TooLarge, Stands::TooLarge) => Ok(true),
-        _ => Ok(false),
-    }
-}
-
-// Compares what was seen with what was to be asked.
-fn try_seen(
+// Runs the words with the limits of a case.
+fn run_case(
     rt: &impl Abort,
     alloc: Global,
     case: &Case,
-    files: &[(&'static str, Content)],
-    seen: &[SeenEntry],
-) -> Result<(), Fail> {
-    let name = case.name;
-    assert_eq!(rt;
-        seen.len(),
-        case.seen.len(),
-        "{name}: how many paths were asked"
-    );
-    for (entry, asked) in seen.iter().zip(case.seen) {
-        assert!(rt; entry.path.as_str() == asked.path, "{name}: the path asked");
-        let same = is_answer(alloc, &entry.answer, asked, files)?;
-        assert!(rt; same, "{name}: the answer");
-    }
-    Ok(())
-}
-
-// Whether a call is the one that was to be made.
-fn is_call(call: &FileCall, path: &str, wanted: Call) -> bool {
-    call.path.as_str() == path && call.request == wanted.request && call.failed == wanted.failed
-}
-
-// Compares the calls that the files tell with those that were to be made.
-fn try_calls(rt: &impl Abort, case: &Case, calls: &[FileCall]) {
-    let name = case.name;
-    let mut rest = calls;
-    for asked in case.seen {
-        for wanted in asked.calls {
-            let Some((call, after)) = rest.split_first() else {
-                assert!(rt; false, "{name}: a call is missing");
-                return;
-            };
-            assert!(rt; is_call(call, asked.path, *wanted), "{name}: the call");
-            rest = after;
+    files: &mut MemoryFiles,
+    out: &mut MemorySink,
+    err: &mut MemorySink,
+) -> Result<Ended, Fail> {
+    let words = words_of(alloc, case.words)?;
+    assert!(rt; are_in_bounds(words.as_slice()), "the words");
+    let words = words.as_slice();
+    match case.within.limits() {
+        None => Ok(run(alloc, words, files, out, err)),
+        Some(limits) => {
+            assert!(rt; limits.asking.read <= 4_294_967_295, "the limit of a file");
+            Ok(run_within(alloc, &limits, words, files, out, err))
         }
     }
-    assert!(rt; rest.is_empty(), "{name}: a call too many");
 }
 
 /// Runs a case over these files, and compares what it gave.
-pub(crate) fn try_case(
+pub(crate) fn try_over(
     rt: &impl Abort,
     alloc: Global,
     case: &Case,
-    files: &[(&'static str, Content)],
+    stored: List<Stored>,
 ) -> Result<(), Fail> {
     let name = case.name;
-    let stored = files_of(alloc, files)?;
-    let words = words_of(alloc, case.words)?;
-    let mut out = sink_of(alloc, case.out)?;
-    let mut err = sink_of(alloc, case.err)?;
+    let known = stored.copy()?;
     assert!(rt; can_stand(stored.as_slice()), "{name}: the files");
-    assert!(rt; are_in_bounds(words.as_slice()), "{name}: the words");
-    let mut outside = MemoryFiles::new(alloc, stored, numbers_of(alloc, case.failing)?);
-    let ended = run(alloc, words.as_slice(), &mut outside, &mut out, &mut err);
+    let mut files = MemoryFiles::new(alloc, stored, numbers_of(alloc, case.failing)?);
+    let mut out = sink_of(alloc, case.out_sink)?;
+    let mut err = sink_of(alloc, case.err_sink)?;
+    let ended = run_case(rt, alloc, case, &mut files, &mut out, &mut err)?;
     assert_eq!(rt; ended.cause, case.cause, "{name}: the cause");
     assert_eq!(rt; ended.status, case.status, "{name}: the status");
-    try_seen(rt, alloc, case, files, ended.seen.as_slice())?;
-    try_calls(rt, case, outside.calls());
-    assert!(rt;
-        out.bytes().as_slice() == case.told.as_bytes(),
-        "{name}: out"
-    );
-    assert!(rt;
-        err.bytes().as_slice() == case.found.as_bytes(),
-        "{name}: err"
-    );
+    let seen = ended.seen.as_slice();
+    let most = case.within.most_read();
+    let asked = shown_asked(alloc, seen, files.calls(), known.as_slice(), most)?;
+    assert_eq!(rt; asked.as_str(), case.asked, "{name}: what was asked");
+    let shown = std::str::from_utf8(out.bytes().as_slice()).unwrap_or("no text");
+    assert_eq!(rt; shown, case.out, "{name}: out");
+    let shown = std::str::from_utf8(err.bytes().as_slice()).unwrap_or("no text");
+    assert_eq!(rt; shown, case.err, "{name}: err");
+    Ok(())
+}
+
+/// Runs the case of a text of `a.c`, of which that is told on err.
+pub(crate) fn try_text(
+    rt: &(impl Abort + AllocGlobal),
+    name: &'static str,
+    bytes: Bytes,
+    told: &'static str,
+) -> Result<(), Fail> {
+    let alloc = rt.alloc();
+    let plain = if told == NOT_BUILT {
+        Case {
+            cause: Cause::NotBuilt,
+            ..REFUSED
+        }
+    } else {
+        PLAIN
+    };
+    let case = Case {
+        name,
+        err: told,
+        ..plain
+    };
+    let mut files = List::new(alloc);
+    let path = Path::from_str(alloc, "a.c")?;
+    files.push(Stored { path, bytes })?;
+    try_over(rt, alloc, &case, files)
+}
+
+/// Runs cases over their files.
+pub(crate) fn try_cases(rt: &(impl Abort + AllocGlobal), cases: &[Case]) -> Result<(), Fail> {
+    let alloc = rt.alloc();
+    for case in cases {
+        try_over(rt, alloc, case, files_of(alloc, case.files)?)?;
+    }
     Ok(())
 }

@@ -1,11 +1,12 @@
-pub mod CallLaws
-pub mod AnswerLaws
-pub mod UnitLaws
-pub mod FindingLaws
-pub mod SoundLaws
-pub mod TookLaws
+mod Examples
 pub mod FaultLaws
+pub mod TookLaws
+pub mod RunLaws
+pub mod WrittenLaws
+pub mod PieceLaws
+pub mod CheckedLaws
+pub mod OptionsLaws
 pub mod EndLaws
+pub mod GroundLaws
 pub mod ReportLaws
 pub mod SomeReport
-mod Examples

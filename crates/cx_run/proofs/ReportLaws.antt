@@ -1,109 +1,115 @@
 -- The words and what was seen have at most one report.
-use Rattle.std.proofs.Common.{◌≡◌, ℕ, List, [], ◌∷◌, Option, Some, None, refl, sym, ap, subst, ◌∙◌, ◌⊎◌, ⊎_elim, MatchOption}
-use Rattle.std.specs.List.{AllZip, flat_map}
-use Rattle.cx_base.specs.declared.answers.Answer.{Answer}
-use Rattle.cx_base.specs.declared.answers.Answer.TheVariants.{Present, Absent, Folder, Unreadable, TooLarge}
+use Rattle.std.proofs.Common.{◌≡◌, ℕ, zero, suc, ◌<◌, List, [], ◌∷◌, Option, Some, None, Result, Ok, Err, get_or, length, refl, sym, ap, subst, ◌∙◌, arith}
+use Rattle.std.specs.List.{AllZip}
 use Rattle.cx_base.specs.declared.answers.SeenEntry.{SeenEntry}
-use Rattle.cx_base.specs.declared.finding.Finding.{Finding}
-use Rattle.cx_first.proofs.RunLaws.{ends_same}
-use Rattle.cx_first.proofs.SameLaws.{text_same}
-use Rattle.cx_first.specs.declared.runs.RunEnd.{RunEnd}
-use Rattle.cx_first.specs.declared.runs.RunEnd.TheVariants.{Finished, Stuck}
-use Rattle.cx_first.specs.Grammar.{IsFirstText}
-use Rattle.cx_first.specs.Tree.{Source}
-use Rattle.cx_run.specs.declared.report.Cause.{Cause}
-use Rattle.cx_run.specs.declared.report.Cause.TheVariants.{Done, NoInput, NotBuilt, WriteFault, NoMemory}
+use Rattle.cx_options.specs.declared.answer.Options.{Options}
+use Rattle.cx_options.specs.declared.fault.WordKind.{WordKind}
+use Rattle.cx_options.specs.Command.{Refused, command}
+use Rattle.cx_options.specs.Texts.{refusal_text}
+use Rattle.cx_asking.specs.declared.list_fault.ListFault.{ListFault}
+use Rattle.cx_unit.specs.declared.report.UnitReport.{UnitReport}
+use Rattle.cx_unit.specs.Units.{Ground, IsForeignUnit, IsUnitReport}
+use Rattle.cx_run.specs.declared.limits.RunLimits.{RunLimits}
+use Rattle.cx_run.specs.declared.report.Cause.TheVariants.{BadWords}
 use Rattle.cx_run.specs.declared.report.Report.{Report}
-use Rattle.cx_run.specs.declared.report.ReportPiece.{ReportPiece}
-use Rattle.cx_run.specs.declared.report.UnitReport.{UnitReport}
-use Rattle.cx_run.specs.Asking.{source_path}
-use Rattle.cx_run.specs.First.{IsTextOf, IsFirst, IsFindingAt, FindsBy, Finds, finding_of, tokens_of}
-use Rattle.cx_run.proofs.FindingLaws.{pieces_same}
-use Rattle.cx_run.specs.Reports.{AreFindings, ArePieces, IsCauseOfAnswer, IsCauseOfSeen, IsReport, IsUnitReport, unit_pieces}
+use Rattle.cx_run.specs.Reports.{IsChecked, IsForeignAmong, IsGround, IsOptionsReport, IsReport, WordAt, checked_units, done_report, first_findings, is_bad_word, is_checked, is_done, is_empty, is_foreign, is_read, is_refused_list, list_report, paths_of, refusal_report}
+use Rattle.cx_run.proofs.GroundLaws.{ground_same}
 
-text_of_same : (bytes : List ℕ) (one other : Source) → IsTextOf bytes one → IsTextOf bytes other → one ≡ other
-text_of_same bytes one other a b =
-    text_same 256 (tokens_of a.pieces) one other a.read
-    (subst (λ pieces. IsFirstText (tokens_of pieces) other) (pieces_same bytes b.pieces a.pieces b.comments a.comments b.cut a.cut) b.read)
+-- what laws say of units
+abbrev pub OneUnitReport : Type 0
+OneUnitReport = (g : Ground) (path : List ℕ) (one other : UnitReport) → IsUnitReport g path one → IsUnitReport g path other → one ≡ other
 
-finding_same : (source : Source) (statement node : ℕ) (one other : Finding)
-    → IsFindingAt source statement node one → IsFindingAt source statement node other → one ≡ other
-finding_same source statement node one other a b =
-    let ends = ends_same source (Stuck statement node a.cause) (Stuck statement node b.cause) a.stuck b.stuck in
-    let cause : a.cause ≡ b.cause = cc in
-    let stands = sym a.stands ∙ b.stands in
-    let told : a.told ≡ b.told = cc in
-    a.is ∙ (ap (λ c. finding_of c a.told) cause ∙ (ap (λ t. finding_of b.cause t) told ∙ sym b.is))
+abbrev pub NotBoth : Type 0
+NotBoth = (g : Ground) (path : List ℕ) (report : UnitReport) → IsForeignUnit g path → IsUnitReport g path report → ⊥
 
-found_same : (source : Source) (end : RunEnd) (one other : List Finding) → FindsBy source end one → FindsBy source end other → one ≡ other
-found_same source Finished one other a b = a ∙ sym b
-found_same source (Stuck statement node cause) one other a b =
-    a.2 ∙ (ap (λ f. f ∷ []) (finding_same source statement node a.0 b.0 a.1 b.1) ∙ sym b.2)
-
-finds_same : (source : Source) (one other : List Finding) → Finds source one → Finds source other → one ≡ other
-finds_same source one other a b =
-    found_same source a.0 one other a.2 (subst (λ e. FindsBy source e other) (ends_same source b.0 a.0 b.1 a.1) b.2)
-
-findings_same : (path : List ℕ) (answer : Answer) (one other : List Finding) → AreFindings path answer one → AreFindings path answer other → one ≡ other
-findings_same path (Present bytes) one other a b =
-    finds_same a.0 one other a.2 (subst (λ s. Finds s other) (text_of_same bytes b.0 a.0 b.1 a.1) b.2)
-findings_same path Absent one other a b = absurd a
-findings_same path (Folder entries) one other a b = absurd a
-findings_same path Unreadable one other a b = a ∙ sym b
-findings_same path TooLarge one other a b = absurd a
-
-unit_same : (entry : SeenEntry) (one other : UnitReport) → IsUnitReport entry one → IsUnitReport entry other → one ≡ other
-unit_same entry one other a b =
-    let files = a.files ∙ sym b.files in
-    let progress = a.progress ∙ sym b.progress in
-    let findings = findings_same entry.path entry.answer one.findings other.findings a.findings b.findings in
-    λ i. record { files = files i; progress = progress i; findings = findings i }
-
-units_same : (entries : List SeenEntry) (some others : List UnitReport) → AllZip IsUnitReport entries some → AllZip IsUnitReport entries others → some ≡ others
-units_same [] [] [] a b = refl
-units_same [] [] (unit ∷ units) a b = absurd b
-units_same [] (unit ∷ units) others a b = absurd a
-units_same (entry ∷ entries) [] others a b = absurd a
-units_same (entry ∷ entries) (unit ∷ units) [] a b = absurd b
-units_same (entry ∷ entries) (unit ∷ units) (other ∷ others) a b =
-    let first = unit_same entry unit other a.0 b.0 in
-    let rest = units_same entries units others a.1 b.1 in
+zip_same : {A B : Type 0} (R : A → B → Type 0) → ((x : A) (y z : B) → R x y → R x z → y ≡ z)
+    → (xs : List A) (ys zs : List B) → AllZip R xs ys → AllZip R xs zs → ys ≡ zs
+zip_same R one [] [] [] a b = refl
+zip_same R one [] [] (z ∷ zs) a b = absurd b
+zip_same R one [] (y ∷ ys) zs a b = absurd a
+zip_same R one (x ∷ xs) [] zs a b = absurd a
+zip_same R one (x ∷ xs) (y ∷ ys) [] a b = absurd b
+zip_same R one (x ∷ xs) (y ∷ ys) (z ∷ zs) a b =
+    let first = one x y z a.0 b.0 in
+    let rest = zip_same R one xs ys zs a.1 b.1 in
     cc
 
-told_same : (cause : Cause) (seen : List SeenEntry) (some others : List ReportPiece) → ArePieces cause seen some → ArePieces cause seen others → some ≡ others
-told_same Done seen some others a b =
-    a.joined ∙ (ap (λ units. flat_map unit_pieces units) (units_same seen a.units b.units a.each b.each) ∙ sym b.joined)
-told_same NoInput seen some others a b = a ∙ sym b
-told_same NotBuilt seen some others a b = a ∙ sym b
-told_same (WriteFault sink) seen some others a b = absurd a
-told_same NoMemory seen some others a b = absurd a
+zip_at : {A B : Type 0} (R : A → B → Type 0) (xs : List A) (ys : List B) (n : ℕ) (x : A) → AllZip R xs ys → n < length xs → get_or xs n x ≡ x
+    → (y : B) × R x y
+zip_at R [] ys n x all below at = absurd (omega (arith, below))
+zip_at R (a ∷ xs) [] n x all below at = absurd all
+zip_at R (a ∷ xs) (b ∷ ys) zero x all below at = (b, subst (λ z. R z b) at all.0)
+zip_at R (a ∷ xs) (b ∷ ys) (suc n) x all below at = zip_at R xs ys n x all.1 (omega (arith, below)) at
 
-either_same : (P : Type 0) (one other : Cause) → (P × (one ≡ Done)) ⊎ (¬ P × (one ≡ NotBuilt)) → (P × (other ≡ Done)) ⊎ (¬ P × (other ≡ NotBuilt)) → one ≡ other
-either_same P one other a b =
-    ⊎_elim
-    (λ x. ⊎_elim (λ y. x.1 ∙ sym y.1) (λ y. absurd (y.0 x.0)) b)
-    (λ x. ⊎_elim (λ y. absurd (x.0 y.0)) (λ y. x.1 ∙ sym y.1) b)
-    a
+module _ (one_unit : OneUnitReport) (not_both : NotBoth) where
+  apart : (g : Ground) (paths : List (List ℕ)) (units : List UnitReport) → IsForeignAmong g paths → AllZip (IsUnitReport g) paths units → ⊥
+  apart g paths units f all =
+      let unit = zip_at (IsUnitReport g) paths units f.1.0 f.0 all f.1.1 f.1.2 in
+      not_both g f.0 unit.0 f.2 unit.1
 
-answer_same : (answer : Answer) (one other : Cause) → IsCauseOfAnswer answer one → IsCauseOfAnswer answer other → one ≡ other
-answer_same (Present bytes) one other a b = either_same (IsFirst bytes) one other a b
-answer_same Absent one other a b = a ∙ sym b
-answer_same (Folder entries) one other a b = a ∙ sym b
-answer_same Unreadable one other a b = a ∙ sym b
-answer_same TooLarge one other a b = a ∙ sym b
+  module _ (limits : RunLimits) (options : Options) (seen : List SeenEntry) where
+    foreign_or_done : (g h : Ground) (units : List UnitReport) → IsGround limits options seen g → IsGround limits options seen h
+        → IsForeignAmong g (checked_units limits options seen) → AllZip (IsUnitReport h) (checked_units limits options seen) units → ⊥
+    foreign_or_done g h units s t f all =
+        apart g (checked_units limits options seen) units f
+        (subst (λ k. AllZip (IsUnitReport k) (checked_units limits options seen) units) (ground_same limits options seen h g t s) all)
 
-seen_same : (seen : List SeenEntry) (one other : Cause) → IsCauseOfSeen seen one → IsCauseOfSeen seen other → one ≡ other
-seen_same [] one other a b = absurd a
-seen_same (entry ∷ []) one other a b = answer_same entry.answer one other a b
-seen_same (entry ∷ next ∷ seen) one other a b = absurd a
+    checked_same : (one other : Report) → IsChecked limits options seen one → IsChecked limits options seen other → one ≡ other
+    checked_same _ _ (is_foreign g s f) (is_foreign h t k) = refl
+    checked_same _ _ (is_foreign g s f) (is_done h units t all) = absurd (foreign_or_done g h units s t f all)
+    checked_same _ _ (is_done g units s all) (is_foreign h t f) = absurd (foreign_or_done h g units t s f all)
+    checked_same _ _ (is_done g units s all) (is_done h others t more) =
+        ap (λ us. done_report options (paths_of seen) (first_findings limits options seen) us)
+        (zip_same (IsUnitReport g) (one_unit g) (checked_units limits options seen) units others all
+        (subst (λ k. AllZip (IsUnitReport k) (checked_units limits options seen) others) (ground_same limits options seen h g t s) more))
 
-source_same : (source : Option (List ℕ)) (seen : List SeenEntry) (one other : Cause)
-    → MatchOption source (one ≡ NotBuilt) (λ path. IsCauseOfSeen seen one) → MatchOption source (other ≡ NotBuilt) (λ path. IsCauseOfSeen seen other) → one ≡ other
-source_same None seen one other a b = a ∙ sym b
-source_same (Some path) seen one other a b = seen_same seen one other a b
+    none_some : {X : Type 0} (o : Option X) (x : X) → o ≡ None → o ≡ Some x → ⊥
+    none_some o x e f = absurd cc
 
-pub one_report : (words : List (List ℕ)) (seen : List SeenEntry) (one other : Report) → IsReport words seen one → IsReport words seen other → one ≡ other
-one_report words seen one other a b =
-    let causes = source_same (source_path words) seen one.cause other.cause a.cause b.cause in
-    let pieces = told_same other.cause seen one.pieces other.pieces (subst (λ c. ArePieces c seen one.pieces) causes a.pieces) b.pieces in
-    λ i. record { cause = causes i; pieces = pieces i }
+    fault_same : (o : Option ListFault) (f g : ListFault) → o ≡ Some f → o ≡ Some g → f ≡ g
+    fault_same o f g e k = cc
+
+    options_same : (one other : Report) → IsOptionsReport limits options seen one → IsOptionsReport limits options seen other → one ≡ other
+    options_same _ _ (is_refused_list f e) (is_refused_list g k) = ap list_report (fault_same _ f g e k)
+    options_same _ _ (is_refused_list f e) (is_empty k n) = absurd (none_some _ f k e)
+    options_same _ _ (is_refused_list f e) (is_checked report k n c) = absurd (none_some _ f k e)
+    options_same _ _ (is_empty e n) (is_refused_list g k) = absurd (none_some _ g e k)
+    options_same _ _ (is_empty e n) (is_empty k m) = refl
+    options_same _ _ (is_empty e n) (is_checked report k m c) = absurd (m n)
+    options_same _ _ (is_checked report e n c) (is_refused_list g k) = absurd (none_some _ g e k)
+    options_same _ _ (is_checked report e n c) (is_empty k m) = absurd (n m)
+    options_same _ _ (is_checked report e n c) (is_checked other k m d) = checked_same report other c d
+
+  words_same : (words : List (List ℕ)) (n m : ℕ) (kind other : WordKind) (word text : List ℕ)
+      → command words ≡ Err (record { word = n; kind = kind }) → command words ≡ Err (record { word = m; kind = other })
+      → WordAt words n word → WordAt words m text
+      → refusal_report (BadWords n kind) (refusal_text kind word) ≡ refusal_report (BadWords m other) (refusal_text other text)
+  words_same words n m kind other word text e f w v =
+      let refused : ◌≡◌ {A = Refused} (record { word = n; kind = kind }) (record { word = m; kind = other }) = refused_same _ _ (command words) e f in
+      let numbers : n ≡ m = ap (λ (r : Refused). r.word) refused in
+      let kinds : kind ≡ other = ap (λ (r : Refused). r.kind) refused in
+      let texts : word ≡ text = some_same word text (sym w ∙ (subst (λ k. WordAt words k text) (sym numbers) v)) in
+      ap (λ k. refusal_report (BadWords k kind) (refusal_text kind word)) numbers
+      ∙ ap (λ k. refusal_report (BadWords m k) (refusal_text k word)) kinds
+      ∙ ap (λ t. refusal_report (BadWords m other) (refusal_text other t)) texts
+    where
+      refused_same : (a b : Refused) (r : Result Options Refused) → r ≡ Err a → r ≡ Err b → a ≡ b
+      refused_same a b r e f = cc
+
+      some_same : (a b : List ℕ) → Some a ≡ Some b → a ≡ b
+      some_same a b e = cc
+
+  err_ok : (c : Result Options Refused) (r : Refused) (o : Options) → c ≡ Err r → c ≡ Ok o → ⊥
+  err_ok c r o e f = absurd cc
+
+  ok_same : (c : Result Options Refused) (a b : Options) → c ≡ Ok a → c ≡ Ok b → a ≡ b
+  ok_same c a b e f = cc
+
+  pub one_report : (limits : RunLimits) (words : List (List ℕ)) (seen : List SeenEntry) (one other : Report)
+      → IsReport limits words seen one → IsReport limits words seen other → one ≡ other
+  one_report limits words seen _ _ (is_bad_word n kind word e w) (is_bad_word m other text f v) = words_same words n m kind other word text e f w v
+  one_report limits words seen _ _ (is_bad_word n kind word e w) (is_read options report f r) = absurd (err_ok _ _ options e f)
+  one_report limits words seen _ _ (is_read options report f r) (is_bad_word n kind word e w) = absurd (err_ok _ _ options e f)
+  one_report limits words seen _ _ (is_read options report e r) (is_read others other f s) =
+      options_same limits options seen report other r
+      (subst (λ o. IsOptionsReport limits o seen other) (ok_same _ others options f e) s)

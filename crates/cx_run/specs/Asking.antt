@@ -1,40 +1,29 @@
--- Which paths are asked, and in which order.
-use Rattle.std.specs.Prelude.{◌≡◌, ℕ, Bool, ◌&&◌, ◌||◌, ◌==◌, nat_le, if◌then◌else◌, List, [], ◌∷◌, ◌++◌, Option, Some, None, nat_eq, codes}
-use Rattle.std.specs.List.{list_all, ends_with}
+-- What the words ask of the files, and what these answered.
+use Rattle.std.specs.Prelude.{◌≡◌, List, [], Result, Ok, Err}
 use Rattle.cx_base.specs.declared.answers.SeenEntry.{SeenEntry}
+use Rattle.cx_base.specs.Outside.{FilesState}
+use Rattle.cx_shelf.specs.declared.shelf.Shelved.{Shelved}
+use Rattle.cx_options.specs.declared.answer.Options.{Options}
+use Rattle.cx_options.specs.Command.{Refused}
+use Rattle.cx_asking.specs.declared.limits.Limits.{Limits}
+use Rattle.cx_asking.specs.Asked.{AreAnswers, IsAskedOnly}
+use Rattle.cx_asking.specs.Asking.{IsWholeAsking}
+use Rattle.cx_asking.specs.Calls.{Answered}
 
--- a letter, a digit, `_` or `.`, in ASCII
-abbrev pub is_name_byte : ℕ → Bool
-is_name_byte b =
-    (nat_le 97 b && nat_le b 122) || (nat_le 65 b && nat_le b 90) || (nat_le 48 b && nat_le b 57)
-    || b == 95 || b == 46
+-- All that the words ask: where one is refused nothing, else all that the options want.
+abbrev pub IsAllAsked : Limits → Result Options Refused → List SeenEntry → Type 0
+IsAllAsked limits (Err refused) seen = seen ≡ []
+IsAllAsked limits (Ok options) seen =
+    (shelf : List Shelved) × IsWholeAsking limits options seen shelf
 
--- the name of a source: such bytes alone, with `.c` at the end
-abbrev pub is_source_name : List ℕ → Bool
-is_source_name word = list_all is_name_byte word && ends_with nat_eq word (codes ".c")
+-- the answers that the files gave to the calls for what was seen, and to no others
+abbrev pub AreItsAnswers
+    : Limits → Result Options Refused → List SeenEntry → FilesState → FilesState → Type 0
+AreItsAnswers limits (Err refused) seen before after = Answered before after []
+AreItsAnswers limits (Ok options) seen before after =
+    (shelf : List Shelved) × AreAnswers limits options seen shelf before after
 
--- the path of the one source that the words name, where they are one such word
-abbrev pub source_path : List (List ℕ) → Option (List ℕ)
-source_path [] = None
-source_path (word ∷ []) = if is_source_name word then Some word else None
-source_path (word ∷ other ∷ words) = None
-
--- the next path to ask after what was seen
-abbrev pub next_path : List (List ℕ) → List SeenEntry → Option (List ℕ)
-next_path words [] = source_path words
-next_path words (entry ∷ seen) = None
-
--- each entry's path is the next one after the entries before it
-abbrev pub IsAskedAfter : List (List ℕ) → List SeenEntry → List SeenEntry → Type 0
-IsAskedAfter words before [] = Unit {0}
-IsAskedAfter words before (entry ∷ seen) =
-    (next_path words before ≡ Some entry.path) × IsAskedAfter words (before ++ entry ∷ []) seen
-
--- what the words ask, in order, up to any entry
-abbrev pub IsAsking : List (List ℕ) → List SeenEntry → Type 0
-IsAsking words seen = IsAskedAfter words [] seen
-
--- all that the words ask, in order, up to where nothing more is asked
-pub record IsWholeAsking (words : List (List ℕ)) (seen : List SeenEntry) : Type 0 where
-  pub asked : IsAsking words seen
-  pub done : next_path words seen ≡ None
+-- the files were asked for a front of what the words ask, and for nothing else
+abbrev pub IsAskedAlone : Limits → Result Options Refused → FilesState → FilesState → Type 0
+IsAskedAlone limits (Err refused) before after = Answered before after []
+IsAskedAlone limits (Ok options) before after = IsAskedOnly limits options before after

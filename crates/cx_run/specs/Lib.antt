@@ -1,9 +1,6 @@
 pub mod Limits
 pub mod Asking
-pub mod Calls
-pub mod Answers
-pub mod First
-pub mod Texts
+pub mod Findings
 pub mod Reports
 pub mod Written
 pub mod Run

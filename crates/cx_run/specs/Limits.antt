@@ -1,18 +1,12 @@
 -- The limits of a run.
-use Rattle.std.specs.Prelude.{ℕ, Bool, ◌&&◌, nat_le, List, length}
-use Rattle.std.specs.List.{list_all}
+use Rattle.cx_run.specs.declared.limits.RunLimits.{RunLimits}
 
--- the most bytes that are read of a file: a file of that many bytes or more is too large
-abbrev pub most_read : ℕ
-most_read = 4194305
-
--- the most words, and the most bytes of a word
-abbrev pub most_words : ℕ
-most_words = 4294967294
-
-abbrev pub is_in_bounds : List ℕ → Bool
-is_in_bounds word = nat_le (length word) most_words
-
--- there are at most so many words, with at most as many bytes each
-abbrev pub are_in_bounds : List (List ℕ) → Bool
-are_in_bounds words = nat_le (length words) most_words && list_all is_in_bounds words
+-- The limits of the command: of each file 4,194,304 bytes are read, and of all files 67,108,864 are
+-- kept; 65,536 folders are gone through, 64 deep; a unit has 512 files and 8,388,608 bytes in all;
+-- 4,096 units are checked.
+abbrev pub limits_of_command : RunLimits
+limits_of_command = record {
+  asking = record { read = 4194305; kept = 67108864; folders = 65536; depth = 64 };
+  unit = record { read = 4194305; files = 512; bytes = 8388608 };
+  units = 4096;
+}

@@ -1,3 +1,3 @@
-pub mod Asked
-pub mod Outcomes
+-- What the code does on its way, as relations of its own shape.
 pub mod Stops
+pub mod Told

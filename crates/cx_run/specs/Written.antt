@@ -3,8 +3,9 @@ use Rattle.std.specs.Prelude.{◌≡◌, ℕ, List, [], ◌∷◌, ◌++◌, tak
 use Rattle.cx_base.specs.Faults.{Rose}
 use Rattle.cx_base.specs.Outside.{Appends, SinkState}
 use Rattle.cx_base.specs.declared.answers.SeenEntry.{SeenEntry}
+use Rattle.cx_run.specs.declared.limits.RunLimits.{RunLimits}
 use Rattle.cx_run.specs.declared.report.Cause.{Cause}
-use Rattle.cx_run.specs.declared.report.Cause.TheVariants.{Done, NoInput, NotBuilt, WriteFault, NoMemory}
+use Rattle.cx_run.specs.declared.report.Cause.TheVariants.{WriteFault, NoMemory}
 use Rattle.cx_run.specs.declared.report.SinkName.{SinkName}
 use Rattle.cx_run.specs.declared.report.SinkName.TheVariants.{Out, Err}
 use Rattle.cx_run.specs.declared.report.ReportPiece.{ReportPiece}
@@ -47,32 +48,35 @@ pub record IsFront (pieces front : List ReportPiece) (sink : SinkName) : Type 0 
   pub joins : front ≡ whole ++ record next { bytes = take count next.bytes } ∷ []
   pub goes : next.sink ≡ sink
 
--- the report of this cause is written whole
-pub record IsWhole (words : List (List ℕ)) (seen : List SeenEntry) (before after : Sinks)
-    (cause : Cause) : Type 0 where
+-- the report of this cause and this status is written whole
+pub record IsWhole (limits : RunLimits) (words : List (List ℕ)) (seen : List SeenEntry)
+    (before after : Sinks) (cause : Cause) (status : ℕ) : Type 0 where
   pub report : Report
-  pub reports : IsReport words seen report
+  pub reports : IsReport limits words seen report
   pub because : report.cause ≡ cause
+  pub ends : report.status ≡ status
   pub took : Took before after report.pieces
 
 -- a front of a report is written: it ends in a piece for this sink
-pub record IsInterrupted (words : List (List ℕ)) (seen : List SeenEntry) (before after : Sinks)
-    (sink : SinkName) : Type 0 where
+pub record IsInterrupted (limits : RunLimits) (words : List (List ℕ)) (seen : List SeenEntry)
+    (before after : Sinks) (sink : SinkName) : Type 0 where
   pub report : Report
-  pub reports : IsReport words seen report
+  pub reports : IsReport limits words seen report
   pub front : List ReportPiece
   pub begins : IsFront report.pieces front sink
   pub took : Took before after front
 
--- what is written, by the cause: after a fault of a sink a front that ends there; where memory ran
--- out nothing, or such a front; else the report whole
-abbrev pub IsWritten : List (List ℕ) → List SeenEntry → Sinks → Sinks → Cause → Type 0
-IsWritten words seen before after Done = IsWhole words seen before after Done
-IsWritten words seen before after NoInput = IsWhole words seen before after NoInput
-IsWritten words seen before after NotBuilt = IsWhole words seen before after NotBuilt
-IsWritten words seen before after (WriteFault sink) = IsInterrupted words seen before after sink
-IsWritten words seen before after NoMemory =
-    Took before after [] ⊎ ((sink : SinkName) × IsInterrupted words seen before after sink)
+-- What is written, and the status, by the cause: after a fault of a sink a front that ends there;
+-- where memory ran out nothing, or such a front; else the report whole.
+abbrev pub IsWritten
+    : RunLimits → List (List ℕ) → List SeenEntry → Sinks → Sinks → Cause → ℕ → Type 0
+IsWritten limits words seen before after (WriteFault sink) status =
+    (status ≡ 3) × IsInterrupted limits words seen before after sink
+IsWritten limits words seen before after NoMemory status =
+    (status ≡ 4) × (Took before after []
+    ⊎ ((sink : SinkName) × IsInterrupted limits words seen before after sink))
+IsWritten limits words seen before after cause status =
+    IsWhole limits words seen before after cause status
 
 -- both counts of faults are as they were
 abbrev pub IsFaultless : Sinks → Sinks → Type 0
@@ -88,8 +92,5 @@ FailedAlone Err before after =
 
 -- the counts of the sinks, by the cause
 abbrev pub HasFaultsOf : Cause → Sinks → Sinks → Type 0
-HasFaultsOf Done before after = IsFaultless before after
-HasFaultsOf NoInput before after = IsFaultless before after
-HasFaultsOf NotBuilt before after = IsFaultless before after
 HasFaultsOf (WriteFault sink) before after = FailedAlone sink before after
-HasFaultsOf NoMemory before after = IsFaultless before after
+HasFaultsOf cause before after = IsFaultless before after

@@ -1,18 +1,20 @@
 //! The whole checker as one call: it asks the files, decides what to tell, and writes it.
+
 #![tactic(auto)]
 
 pub use laws::{one_report, some_report};
-pub use report::{Cause, Report, ReportPiece, SinkName, UnitReport};
-pub use run_all::{Ended, run};
-pub use words::are_in_bounds;
+pub use limits::RunLimits;
+pub use report::{Cause, Report, ReportPiece, SinkName};
+pub use run_all::{Ended, run, run_within};
 
-mod asking;
-mod deciding;
-mod finding;
+mod checked;
+mod enabled;
+mod keys;
 mod laws;
+mod limits;
 mod pieces;
+mod refusals;
 mod report;
 mod run_all;
-mod texts;
-mod words;
+mod teller;
 mod writing;

@@ -1,17 +1,19 @@
 //! The pieces of a report.
-ghost use Rattle.std.specs.Prelude.{◌≡◌, ◌++◌, [], ◌∷◌, map, codes, All, IfOk, OnOk};
-ghost use Rattle.cx_run.specs.Answers.{IsBelow, IsEntryBelow};
-ghost use Rattle.cx_run.specs.Asking.{IsWholeAsking};
-ghost use Rattle.cx_lex.specs.Lines.{place_limit};
-ghost use Rattle.cx_run.specs.Reports.{ArePieces, IsCauseOfSeen, IsReport, finding_piece, progress_piece, refusal, unit_pieces};
+ghost use Rattle.std.specs.Prelude.{◌≡◌, ◌≤◌, ◌++◌, [], IfOk, OnOk, drop, length};
+ghost use Rattle.cx_run.specs.Findings.{with_findings};
+ghost use Rattle.cx_run.specs.Reports.{all_findings, done_report, finding_pieces};
+ghost use Rattle.cx_run.specs.Reports.{progress_piece, progress_pieces, unit_pieces};
 
-use crate::deciding::{Outcome, outcome_of};
-use crate::report::{Cause, Report, ReportPiece, SinkName, UnitReport};
-use crate::texts::finding_line;
-use crate::words::source_path;
-use cx_base::{Bytes, Finding, List, NoMemory, Path, SeenEntry, Text};
+use crate::enabled::{exit_status, is_enabled};
+use crate::report::{Cause, Report, ReportPiece, SinkName};
+use cx_base::{Bytes, Finding, List, NoMemory, Path, Text};
+use cx_finding::{Findings, finding_line};
+use cx_options::Options;
+use cx_table::NameKey;
+use cx_unit::UnitReport;
 use std::alloc::Global;
 
+/// A progress line with its newline.
 fn progress_piece(alloc: Global, line: &Text) -> Result<ReportPiece, NoMemory>
     ensures { IfOk result (λ piece. piece ≡ progress_piece line.now) }
 {
@@ -23,120 +25,107 @@ fn progress_piece(alloc: Global, line: &Text) -> Result<ReportPiece, NoMemory>
     })
 }
 
+/// Adds the progress lines of a unit.
 fn push_progress(
     alloc: Global,
     pieces: &mut List<ReportPiece>,
-    lines: &[Text],
+    options: &Options,
+    unit: &UnitReport,
 ) -> Result<(), NoMemory>
-    ensures { OnOk result (pieces.new ≡ pieces.old ++ map progress_piece lines.now) }
+    ensures { OnOk result (pieces.new ≡ pieces.old ++ progress_pieces options.now unit.now) }
 {
-    for line in lines {
-        let piece = progress_piece(alloc, line)?;
-        pieces.push(piece)?;
+    if options.quiet {
+        return Ok(());
+    }
+    for line in unit.progress.as_slice() {
+        pieces.push(progress_piece(alloc, line)?)?;
     }
     Ok(())
 }
 
+/// Adds the lines of those findings that are switched on.
 fn push_findings(
     alloc: Global,
     pieces: &mut List<ReportPiece>,
+    options: &Options,
     files: &[Path],
     findings: &[Finding],
 ) -> Result<(), NoMemory>
-    ensures { OnOk result (pieces.new ≡ pieces.old ++ map (finding_piece files.now) findings.now) }
+    ensures { OnOk result
+        (pieces.new ≡ pieces.old ++ finding_pieces options.now files.now findings.now) }
 {
     for finding in findings {
-        let bytes = finding_line(alloc, files, finding)?;
-        pieces.push(ReportPiece {
-            sink: SinkName::Err,
-            bytes,
-        })?;
+        if is_enabled(options, finding) {
+            let bytes = finding_line(alloc, files, finding)?;
+            pieces.push(ReportPiece {
+                sink: SinkName::Err,
+                bytes,
+            })?;
+        }
     }
     Ok(())
 }
 
-// The pieces of a unit: its progress lines, then its findings.
-fn unit_pieces(alloc: Global, unit: &UnitReport) -> Result<List<ReportPiece>, NoMemory>
-    ensures { IfOk result (λ pieces. pieces ≡ unit_pieces unit.now) }
+/// Adds the lines of those findings behind the first so many.
+fn push_new(
+    alloc: Global,
+    pieces: &mut List<ReportPiece>,
+    options: &Options,
+    files: &[Path],
+    told: &[Finding],
+    before: usize,
+) -> Result<(), NoMemory>
+    requires { before ≤ length told.now }
+    ensures { OnOk result (pieces.new
+        ≡ pieces.old ++ finding_pieces options.now files.now (drop before told.now)) }
+{
+    push_findings(alloc, pieces, options, files, &told[before..])
+}
+
+/// Adds the pieces of units, where some findings were told before. Answers all that are told then.
+#[tactic(auto, using(crate::proofs::PieceLaws::told_grows, crate::proofs::PieceLaws::told_end))]
+fn push_units(
+    alloc: Global,
+    pieces: &mut List<ReportPiece>,
+    options: &Options,
+    files: &[Path],
+    told: Findings,
+    units: &[UnitReport],
+) -> Result<Findings, NoMemory>
+    ensures pieces { OnOk result (pieces.new
+        ≡ pieces.old ++ unit_pieces options.now files.now told units.now) }
+    ensures told { IfOk result (λ all. all ≡ all_findings told units.now) }
+{
+    let mut told = told;
+    for unit in units {
+        push_progress(alloc, pieces, options, unit)?;
+        let before = told.as_slice().len();
+        told = told.with_all(unit.findings.as_slice())?;
+        push_new(alloc, pieces, options, files, told.as_slice(), before)?;
+    }
+    Ok(told)
+}
+
+/// The report of units that were checked: these findings stand first.
+pub(crate) fn done_report(
+    alloc: Global,
+    key: NameKey,
+    options: &Options,
+    files: &[Path],
+    first: &[Finding],
+    units: &[UnitReport],
+) -> Result<Report, NoMemory>
+    requires { with_findings [] first.now ≡ first.now }
+    ensures { IfOk result
+        (λ report. report ≡ done_report options.now files.now first.now units.now) }
 {
     let mut pieces = List::new(alloc);
-    push_progress(alloc, &mut pieces, unit.progress.as_slice())?;
-    push_findings(
-        alloc,
-        &mut pieces,
-        unit.files.as_slice(),
-        unit.findings.as_slice(),
-    )?;
-    Ok(pieces)
-}
-
-fn refusal(alloc: Global, text: &[u8]) -> Result<List<ReportPiece>, NoMemory>
-    ensures { IfOk result (λ pieces. pieces ≡ refusal text.now) }
-{
-    let mut bytes = Bytes::from_slice(alloc, b"cppcheck: error: ")?;
-    bytes.push_all(text)?;
-    bytes.push_all(b"\n")?;
-    let mut pieces = List::new(alloc);
-    pieces.push(ReportPiece {
-        sink: SinkName::Err,
-        bytes,
-    })?;
-    Ok(pieces)
-}
-
-fn no_input(alloc: Global) -> Result<Report, NoMemory>
-    ensures { IfOk result (λ report. report ≡ record {
-      cause = Cause.NoInput;
-      pieces = refusal (codes "could not find any file to check.");
-    }) }
-{
-    let pieces = refusal(alloc, b"could not find any file to check.")?;
+    push_findings(alloc, &mut pieces, options, files, first)?;
+    let told = Findings::new(alloc, key).with_all(first)?;
+    let told = push_units(alloc, &mut pieces, options, files, told, units)?;
     Ok(Report {
-        cause: Cause::NoInput,
+        cause: Cause::Done,
+        status: exit_status(options, told.as_slice()),
         pieces,
     })
-}
-
-fn not_built(alloc: Global) -> Result<Report, NoMemory>
-    ensures { IfOk result (λ report. report ≡ record {
-      cause = Cause.NotBuilt;
-      pieces = refusal (codes "not built yet.");
-    }) }
-{
-    let pieces = refusal(alloc, b"not built yet.")?;
-    Ok(Report {
-        cause: Cause::NotBuilt,
-        pieces,
-    })
-}
-
-#[tactic(auto, using(crate::proofs::UnitLaws::one_unit))]
-fn report_of_entry(alloc: Global, entry: &SeenEntry) -> Result<Report, NoMemory>
-    requires { IsBelow place_limit entry.now.answer }
-    ensures { IfOk result (λ report. IsCauseOfSeen (entry.now ∷ []) report.cause
-        × ArePieces report.cause (entry.now ∷ []) report.pieces) }
-{
-    match outcome_of(alloc, entry)? {
-        Outcome::Unit(unit) => {
-            let pieces = unit_pieces(alloc, &unit)?;
-            Ok(Report {
-                cause: Cause::Done,
-                pieces,
-            })
-        }
-        Outcome::NoInput => no_input(alloc),
-        Outcome::NotBuilt => not_built(alloc),
-    }
-}
-
-/// The written report of the words and of all that they asked.
-pub(crate) fn report(alloc: Global, words: &[Path], seen: &[SeenEntry]) -> Result<Report, NoMemory>
-    requires asked { IsWholeAsking words.now seen.now }
-    requires below { All (IsEntryBelow place_limit) seen.now }
-    ensures { IfOk result (IsReport words.now seen.now) }
-{
-    match (source_path(words), seen) {
-        (Some(_), [entry]) => report_of_entry(alloc, entry),
-        _ => not_built(alloc),
-    }
 }

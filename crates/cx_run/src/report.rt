@@ -1,5 +1,7 @@
 //! What is told: causes, pieces and reports.
-use cx_base::{Bytes, Finding, List, Path, Text};
+use cx_asking::FileFault;
+use cx_base::{Bytes, List};
+use cx_options::WordKind;
 
 /// The sink that a piece goes to.
 #[derive(Clone, Copy, Debug, PartialEq, Eq)]
@@ -13,6 +15,10 @@ pub enum SinkName {
 pub enum Cause {
     /// Every unit was checked.
     Done,
+    /// The word of that number, counted from 0, is refused, and none before it.
+    BadWords { word: u32, kind: WordKind },
+    /// The list that the word of that number names is refused, and none before it.
+    ListRefused { word: u32, fault: FileFault },
     /// There is nothing to check.
     NoInput,
     /// What was asked for is not served yet.
@@ -30,19 +36,10 @@ pub struct ReportPiece {
     pub bytes: Bytes,
 }
 
-/// What is told of one source and the files that belong to it.
-#[derive(Debug, Drop)]
-pub struct UnitReport {
-    /// The files that places of its findings index.
-    pub files: List<Path>,
-    /// Its progress lines, without their newlines.
-    pub progress: List<Text>,
-    pub findings: List<Finding>,
-}
-
-/// The written report: what decided it, and its pieces in order.
+/// The written report: what decided it, the status to end with, and its pieces in order.
 #[derive(Debug, Drop)]
 pub struct Report {
     pub cause: Cause,
+    pub status: u8,
     pub pieces: List<ReportPiece>,
 }

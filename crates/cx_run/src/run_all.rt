@@ -1,22 +1,24 @@
 //! The top call.
-ghost use Rattle.std.specs.Prelude.{◌≡◌, ◌≤◌, All, IsTrue};
-ghost use Rattle.cx_run.specs.Answers.{IsEntryBelow};
-ghost use Rattle.cx_run.specs.Asking.{IsWholeAsking};
-ghost use Rattle.cx_run.specs.Limits.{are_in_bounds, most_read};
-ghost use Rattle.cx_run.specs.Reports.{status_of};
-ghost use Rattle.cx_run.specs.Run.{IsRun};
+ghost use Rattle.std.specs.Prelude.{◌≡◌, ◌<◌, ◌≤◌, [], Err, IfOk, IsTrue, Ok, length};
 ghost use Rattle.cx_lex.specs.Lines.{place_limit};
+ghost use Rattle.cx_options.specs.Command.{command};
+ghost use Rattle.cx_options.specs.Limits.{are_in_bounds};
+ghost use Rattle.cx_run.specs.declared.limits.RunLimits.{RunLimits as run_limits};
+ghost use Rattle.cx_run.specs.Limits.{limits_of_command};
+ghost use Rattle.cx_run.specs.Reports.{IsReport};
+ghost use Rattle.cx_run.specs.Run.{IsRun};
 ghost use Rattle.cx_run.specs.Written.{HasFaultsOf, IsWritten, sinks};
 
-use crate::asking::ask;
-use crate::pieces::report;
-use crate::report::Cause;
+use crate::checked::report_of;
+use crate::keys::key_of_words;
+use crate::limits::{RunLimits, limits_of_command};
+use crate::refusals::word_report;
+use crate::report::{Cause, Report};
 use crate::writing::write_pieces;
-use cx_base::{Files, List, Lost, NoMemory, Path, Seen, Sink};
+use cx_asking::ask;
+use cx_base::{Files, List, Lost, NoMemory, Path, Seen, SeenEntry, Sink};
+use cx_options::{Options, WordFault, WordKind, options};
 use std::alloc::Global;
-
-/// The most bytes that are read of a file; one that has as many is too large.
-const MOST_READ: u64 = 4_194_305;
 
 /// How a run ended.
 #[derive(Debug, Drop)]
@@ -28,74 +30,148 @@ pub struct Ended {
     pub seen: Seen,
 }
 
-// Writes the report of what was seen, and answers how that went.
+/// Why a report was not written whole, and the status to end with.
+#[derive(Clone, Copy)]
+struct End {
+    cause: Cause,
+    status: u8,
+}
+
+/// The end where memory ran out.
+const NO_MEMORY: End = End {
+    cause: Cause::NoMemory,
+    status: 4,
+};
+
+/// Writes the report of the words and of what was seen, where memory sufficed for it, and answers
+/// how that went.
 fn tell<O: Sink, E: Sink>(
-    alloc: Global,
+    limits: &RunLimits,
     words: &[Path],
-    seen: &Seen,
+    seen: &[SeenEntry],
+    report: Result<Report, NoMemory>,
     out: &mut O,
     err: &mut E,
-) -> Cause
-    requires asked { IsWholeAsking words.now seen.now }
-    requires below { All (IsEntryBelow place_limit) seen.now }
-    ensures written { IsWritten words.now seen.now
+) -> End
+    requires { IfOk report (IsReport limits.now words.now seen.now) }
+    ensures written { IsWritten limits.now words.now seen.now
         (sinks (O.state out.old) (E.state err.old))
-        (sinks (O.state out.new) (E.state err.new)) result }
-    ensures faults { HasFaultsOf result
+        (sinks (O.state out.new) (E.state err.new)) result.cause result.status }
+    ensures faults { HasFaultsOf result.cause
         (sinks (O.state out.old) (E.state err.old))
         (sinks (O.state out.new) (E.state err.new)) }
 {
-    let Ok(report) = report(alloc, words, seen.as_slice()) else {
-        return Cause::NoMemory;
+    let _ = limits;
+    let _ = words;
+    let _ = seen;
+    let Ok(report) = report else {
+        return NO_MEMORY;
     };
     match write_pieces(report.pieces.as_slice(), out, err) {
-        Ok(()) => report.cause,
+        Ok(()) => End {
+            cause: report.cause,
+            status: report.status,
+        },
         Err(stop) => match stop.lost {
-            Lost::Failed => Cause::WriteFault { sink: stop.sink },
-            Lost::NoMemory => Cause::NoMemory,
+            Lost::Failed => End {
+                cause: Cause::WriteFault { sink: stop.sink },
+                status: 3,
+            },
+            Lost::NoMemory => NO_MEMORY,
         },
     }
 }
 
-fn status_of(cause: Cause) -> u8
-    ensures { result ≡ status_of cause }
-{
-    match cause {
-        Cause::Done => 0,
-        Cause::NoInput | Cause::NotBuilt => 1,
-        Cause::WriteFault { .. } => 3,
-        Cause::NoMemory => 4,
-    }
-}
-
-// `run`, with the most bytes to read of a file.
-fn run_with<F: Files, O: Sink, E: Sink>(
+/// The report of a refused word.
+fn bad_word_report(
     alloc: Global,
     words: &[Path],
-    limit: u64,
+    number: u32,
+    kind: WordKind,
+) -> Result<Report, NoMemory>
+    requires bad { command words.now ≡ Err (record { word = number; kind = kind }) }
+    requires within { number < length words.now }
+    ensures { (limits : run_limits) → IfOk result (IsReport limits words.now []) }
+{
+    word_report(alloc, number, kind, &words[number as usize])
+}
+
+/// Checks what options ask for.
+fn run_options<F: Files, O: Sink, E: Sink>(
+    alloc: Global,
+    limits: &RunLimits,
+    words: &[Path],
+    options: &Options,
     files: &mut F,
     out: &mut O,
     err: &mut E,
 ) -> Ended
-    requires { limit ≤ place_limit }
-    ensures { IsRun limit words.now (F.state files.old) (F.state files.new)
+    requires read { command words.now ≡ Ok options.now }
+    requires short { limits.now.asking.read ≤ place_limit }
+    ensures { IsRun limits.now words.now (F.state files.old) (F.state files.new)
         (sinks (O.state out.old) (E.state err.old))
         (sinks (O.state out.new) (E.state err.new)) result }
 {
-    match ask(alloc, words, limit, files) {
-        Ok(seen) => {
-            let cause = tell(alloc, words, &seen, out, err);
+    let Ok(key) = key_of_words(alloc, words) else {
+        return nothing_done(alloc);
+    };
+    let Ok(gathering) = ask(alloc, key, &limits.asking, options, files) else {
+        return nothing_done(alloc);
+    };
+    let report = report_of(alloc, key, limits, options, &gathering);
+    let End { cause, status } = tell(
+        limits,
+        words,
+        gathering.answers.as_slice(),
+        report,
+        out,
+        err,
+    );
+    Ended {
+        status,
+        cause,
+        seen: gathering.answers.into_seen(),
+    }
+}
+
+/// The end where memory ran out before anything was told.
+fn nothing_done(alloc: Global) -> Ended
+    ensures { result ≡ record { status = 4; cause = Cause.NoMemory; seen = [] } }
+{
+    Ended {
+        status: NO_MEMORY.status,
+        cause: NO_MEMORY.cause,
+        seen: List::new(alloc),
+    }
+}
+
+/// `run` with other limits.
+pub fn run_within<F: Files, O: Sink, E: Sink>(
+    alloc: Global,
+    limits: &RunLimits,
+    words: &[Path],
+    files: &mut F,
+    out: &mut O,
+    err: &mut E,
+) -> Ended
+    requires words { IsTrue (are_in_bounds words.now) }
+    requires short { limits.now.asking.read ≤ place_limit }
+    ensures { IsRun limits.now words.now (F.state files.old) (F.state files.new)
+        (sinks (O.state out.old) (E.state err.old))
+        (sinks (O.state out.new) (E.state err.new)) result }
+{
+    match options(alloc, words) {
+        Ok(options) => run_options(alloc, limits, words, &options, files, out, err),
+        Err(WordFault::Bad { word, kind }) => {
+            let report = bad_word_report(alloc, words, word, kind);
+            let End { cause, status } = tell(limits, words, &[], report, out, err);
             Ended {
-                status: status_of(cause),
+                status,
                 cause,
-                seen,
+                seen: List::new(alloc),
             }
         }
-        Err(NoMemory) => Ended {
-            status: status_of(Cause::NoMemory),
-            cause: Cause::NoMemory,
-            seen: List::new(alloc),
-        },
+        Err(WordFault::NoMemory) => nothing_done(alloc),
     }
 }
 
@@ -105,25 +181,25 @@ fn run_with<F: Files, O: Sink, E: Sink>(
 /// The contract is `IsRun`, whose fields say:
 ///
 /// * **asked**: unless memory ran out, `seen` is all that the words ask, each path once and in
-///   order.
+///   order: the lists, the paths given with the sources in folders, and what files include.
 /// * **answers**: unless memory ran out, each answer is what the files hold, where they tell that,
-///   and was got by the calls that give it: by `list`, and where the path is no folder by one
-///   `read` of at most 4,194,305 bytes. A file of as many bytes or more is too large.
+///   and was got by the calls that give it. A file of 4,194,305 bytes or more is too large, and so
+///   is one that takes all bytes kept past 67,108,864.
 /// * **reads**: whatever the cause, the files were asked for what the words ask and nothing else;
 ///   where memory ran out for a front of that. Their count of faults is as it was where no call
 ///   failed, and else rose by at least as many as failed.
-/// * **written**: cause and pieces are those of the report of the words and of `seen`, and each
-///   sink holds its old bytes and then its pieces. After a `WriteFault` a front of the pieces is
-///   written, which ends in a piece for that sink; after `NoMemory` such a front, or nothing.
+/// * **written**: cause, status and pieces are those of the report of the words and of `seen`, and
+///   each sink holds its old bytes and then its pieces. After a `WriteFault`, with status 3, a
+///   front of the pieces is written, which ends in a piece for that sink; after `NoMemory`, with
+///   status 4, such a front, or nothing.
 /// * **nothing**: unless `seen` is all that the words ask, with the answers that the files gave,
 ///   nothing is written.
 /// * **faults**: after a `WriteFault` the count of that sink rose, and that of the other one is as
 ///   it was; with any other cause both are as they were.
-/// * **status**: 0, 1, 3 or 4, by the cause.
 /// * **sound**: for each finding of a division by zero, an overflow or an uninitialized read in a
-///   file of `seen`: no run of the text that the file is makes the value of the finding's node, and
-///   a run comes to its statement. This is a law of every file, which no body can break; that the
-///   findings which are written are those of the files is *written* with *nothing*.
+///   text that a configuration of a checked unit is: no run of it makes the value of the finding's
+///   node, and a run comes to its statement. This is a law of every text, which no body can break;
+///   that the findings which are written are those of the texts is *written* with *nothing*.
 pub fn run<F: Files, O: Sink, E: Sink>(
     alloc: Global,
     words: &[Path],
@@ -132,9 +208,9 @@ pub fn run<F: Files, O: Sink, E: Sink>(
     err: &mut E,
 ) -> Ended
     requires { IsTrue (are_in_bounds words.now) }
-    ensures { IsRun most_read words.now (F.state files.old) (F.state files.new)
+    ensures { IsRun limits_of_command words.now (F.state files.old) (F.state files.new)
         (sinks (O.state out.old) (E.state err.old))
         (sinks (O.state out.new) (E.state err.new)) result }
 {
-    run_with(alloc, words, MOST_READ, files, out, err)
+    run_within(alloc, &limits_of_command(), words, files, out, err)
 }

@@ -1,4 +1,4 @@
-mod ClosureExamples
+mod Examples
 pub mod FileLists
 pub mod FollowLaws
 pub mod IncludeLaws

@@ -10,8 +10,8 @@ use cx_table::NameKey;
 use std::alloc::Global;
 use std::marker::Model;
 
-/// A shelf, with the paths of its files, so that each is found in no time that grows with them.
-/// Contracts see the shelf.
+/// A shelf, with a table from the paths of its files to their numbers. Contracts see the shelf.
+/// No contract bounds the time in which a file is found, nor pins the key of the table.
 #[derive(Drop)]
 pub struct IndexedShelf {
     alloc: Global,

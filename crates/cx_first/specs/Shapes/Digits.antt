@@ -15,7 +15,8 @@ takes_digit value b = is_digit b && nat_le (10 * value + (b - 48)) greatest
 -- the value behind these digits
 unfoldable pub digits_from : ℕ → List ℕ → Option ℕ
 digits_from value [] = Some value
-digits_from value (b ∷ bs) = cond (takes_digit value b) (digits_from (10 * value + (b - 48)) bs) None
+digits_from value (b ∷ bs) =
+    cond (takes_digit value b) (digits_from (10 * value + (b - 48)) bs) None
 
 -- the value of a decimal constant
 unfoldable pub value_of : List ℕ → Option ℕ

@@ -1,5 +1,5 @@
-use Rattle.cx_run.proofs.ReportLaws as reports
+use Rattle.cx_run.proofs.ReportLaws.{one_report}
 use Rattle.cx_run.proofs.laws.one_report.Goals as goal
 
 pub returns : goal.returns
-returns c = reports.one_report
+returns c = one_report c.one_unit_report.ensures c.not_both.ensures

@@ -1,6 +1,8 @@
-use Rattle.std.proofs.Common.{◌≡◌, ◌++◌, map, take}
-use Rattle.cx_run.specs.Reports.{finding_piece}
+use Rattle.std.proofs.Common.{◌≡◌, ◌++◌, drop}
+use Rattle.cx_run.specs.Reports.{finding_pieces}
 use Rattle.cx_run.proofs.pieces.push_findings.Given as goal
 
 abbrev pub invariant-loop-finding : goal.invariant-loop-finding
-invariant-loop-finding l = l.pieces ≡ l.initial.pieces ++ map (finding_piece l.files) (take l.finding-index l.findings)
+invariant-loop-finding l =
+    l.pieces ++ finding_pieces l.options l.files (drop l.finding-index l.findings)
+    ≡ l.initial.pieces ++ finding_pieces l.options l.files l.findings

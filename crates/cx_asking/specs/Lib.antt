@@ -1,0 +1,9 @@
+pub mod Lists
+pub mod Members
+pub mod Wishes
+pub mod Includes
+pub mod Asking
+pub mod Answers
+pub mod Calls
+pub mod Asked
+pub mod Shapes

@@ -1,0 +1,4 @@
+pub mod Asks
+pub mod Indexed
+pub mod Steps
+pub mod Whole

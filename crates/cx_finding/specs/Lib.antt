@@ -1,0 +1,4 @@
+pub mod Kinds
+pub mod Distinct
+pub mod Texts
+pub mod Shapes
