@@ -1,0 +1,10 @@
+mod AheadLaws
+mod CutLaws
+mod EndLaws
+mod Examples
+mod ItemLaws
+mod KindLaws
+mod NestedLaws
+mod OutlineLaws
+mod PartLaws
+mod StackLaws

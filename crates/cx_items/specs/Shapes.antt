@@ -1,0 +1,3 @@
+-- What the code answers, as functions of its own shape.
+pub mod Outlines
+pub mod Ends

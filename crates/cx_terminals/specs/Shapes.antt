@@ -1,0 +1,2 @@
+-- What the code answers, as functions of its own shape.
+pub mod Names
