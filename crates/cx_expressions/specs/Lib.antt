@@ -1,0 +1,5 @@
+pub mod Operators
+pub mod Expressions
+pub mod Shapes
+pub mod Limits
+pub mod Order
