@@ -1,0 +1,14 @@
+mod AlikeLaws
+mod AskingLaws
+mod ChoiceLaws
+mod CleanLaws
+mod FoundLaws
+mod ClosureLaws
+mod InputLaws
+mod LineLaws
+mod MarkLaws
+mod NumberLaws
+mod PathLists
+mod RoundLaws
+mod TakenLaws
+mod ToldLaws
